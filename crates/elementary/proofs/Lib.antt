@@ -1,0 +1,17 @@
+pub mod Ratio
+pub mod Operations
+pub mod Horner
+pub mod Truncation
+pub mod Series
+pub mod Scale
+pub mod Powers
+pub mod Exp2
+pub mod Lipschitz
+pub mod Root
+pub mod Mean
+pub mod Near
+pub mod Difference
+pub mod Digits
+pub mod Shift
+pub mod ExpFn
+pub mod Trig

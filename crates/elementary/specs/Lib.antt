@@ -1,0 +1,5 @@
+pub mod Fraction
+pub mod Power
+pub mod Kernel
+pub mod Near
+pub mod Promise

@@ -1,0 +1,2 @@
+// The seven float functions that vary by platform.
+pub mod power;
