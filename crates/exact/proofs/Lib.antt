@@ -1,3 +1,5 @@
 pub mod Rounding
 pub mod Value
 pub mod Narrowing
+pub mod Saturate
+pub mod Whole
