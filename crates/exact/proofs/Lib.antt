@@ -3,3 +3,5 @@ pub mod Value
 pub mod Narrowing
 pub mod Saturate
 pub mod Whole
+pub mod Sign
+pub mod Extreme

@@ -1,2 +1,3 @@
 pub mod Value
 pub mod Narrow
+pub mod Order

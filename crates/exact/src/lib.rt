@@ -2,3 +2,4 @@
 // over the IEEE 754 values of the logic, for every input.
 pub mod cast;
 pub mod format;
+pub mod order;
