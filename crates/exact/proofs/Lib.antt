@@ -5,3 +5,5 @@ pub mod Saturate
 pub mod Whole
 pub mod Sign
 pub mod Extreme
+pub mod Wrap
+pub mod Draw
