@@ -1,3 +1,9 @@
 pub mod Rounding
 pub mod Value
 pub mod Narrowing
+pub mod Saturate
+pub mod Whole
+pub mod Sign
+pub mod Extreme
+pub mod Wrap
+pub mod Draw

@@ -1,2 +1,4 @@
 pub mod Value
 pub mod Narrow
+pub mod Order
+pub mod Random
