@@ -1,6 +1,9 @@
 pub mod Rounding
 pub mod Value
+pub mod Negation
 pub mod Narrowing
+pub mod Integrals
+pub mod SquareRoot
 pub mod Saturate
 pub mod Whole
 pub mod Sign

@@ -20,6 +20,7 @@ use Rattle.exact.proofs.Rounding.{closest-hi, Cmp, cmp}
 use Rattle.exact.specs.Narrow.{narrowed}
 use Rattle.exact.specs.Value.{plus}
 use Rattle.exact.proofs.Value.{value-plus}
+use Rattle.exact.proofs.Negation.{neg-odd, inf-neg, neg-round}
 use lib.Ieee.Scale.{round-same}
 use lib.Ieee.Positive.{num, den, den-pos, value→cross}
 
@@ -304,36 +305,20 @@ unsigned (inf s) = not s
 unsigned (fin s m e) = not s
 
 -- ---- the sign goes through
-neg-odd : (d : ℕ) (q k l : ℕ) → odd d true q k l ≡ neg (odd d false q k l)
-unfolding odd neg
-neg-odd d zero k l = refl
-neg-odd d (suc q) k l = refl
-
 neg-cond : (b : Bool) (x y x' y' : Float) → x ≡ neg x' → y ≡ neg y' → cond b x y ≡ neg (cond b x' y')
 neg-cond true x y x' y' p q = p
 neg-cond false x y x' y' p q = q
 
-inf-neg : inf true ≡ neg (inf false)
-unfolding neg
-inf-neg = refl
-
 nan-neg : nan ≡ neg nan
 unfolding neg
 nan-neg = refl
-
-neg-units : (q k : ℕ) → units binary32 true q k ≡ neg (units binary32 false q k)
-unfolding units
-neg-units q k = neg-cond (ltb (q * 2 ^ k) (2 ^ 277)) (odd 25 true q k 149) (inf true) (odd 25 false q k 149) (inf false) (neg-odd 25 q k 149) inf-neg
-
-neg-round : (a c : ℕ) → round binary32 true a c ≡ neg (round binary32 false a c)
-neg-round a c = round-is binary32 true a c ∙ neg-units (kept 24 (a * 2 ^ 149) c) (drop 24 (a * 2 ^ 149) c) ∙ ap neg (sym (round-is binary32 false a c))
 
 pub narrowed-neg : (x : Float) → T (unsigned x) → narrowed (neg x) ≡ neg (narrowed x)
 unfolding narrowed neg
 narrowed-neg nan u = refl
 narrowed-neg (inf false) u = refl
 narrowed-neg (inf true) u = absurd u
-narrowed-neg (fin false m e) u = neg-round (m * up e) (down e)
+narrowed-neg (fin false m e) u = neg-round binary32 (m * up e) (down e)
 narrowed-neg (fin true m e) u = absurd u
 
 -- ---- what `nearest_quotient` computes

@@ -1,4 +1,6 @@
 pub mod Value
 pub mod Narrow
+pub mod Integral
+pub mod Root
 pub mod Order
 pub mod Random

@@ -2,5 +2,7 @@
 // over the IEEE 754 values of the logic, for every input.
 pub mod cast;
 pub mod format;
+pub mod integral;
 pub mod order;
 pub mod random;
+pub mod root;
