@@ -1,20 +1,22 @@
 // Writes the answers that `stdout` holds, by the machine's own arithmetic: Rust's operators and casts on the tables of
 // src/tables.rt. It calls nothing of the port. `black_box` keeps the compiler from working them out itself.
 //
-//     rustc --edition 2021 -O answers.rs -o /tmp/answers && /tmp/answers > stdout
+//     rustc --edition 2021 -O answers.rs && ./answers > stdout && rm answers
 use std::hint::black_box;
 
 include!("src/tables.rt");
 
 const GAMMA: u64 = 0x9e37_79b9_7f4a_7c15;
 
-// Every NaN has the one pattern.
+// Every NaN has the one pattern. The test is on the bits: the compiler may take one NaN for another.
 fn bits(x: f32) -> u32 {
-    if x.is_nan() { 0x7fc0_0000 } else { x.to_bits() }
+    let b = black_box(x.to_bits());
+    if b & 0x7fff_ffff > 0x7f80_0000 { 0x7fc0_0000 } else { b }
 }
 
 fn bits64(x: f64) -> u64 {
-    if x.is_nan() { 0x7ff8_0000_0000_0000 } else { x.to_bits() }
+    let b = black_box(x.to_bits());
+    if b & 0x7fff_ffff_ffff_ffff > 0x7ff0_0000_0000_0000 { 0x7ff8_0000_0000_0000 } else { b }
 }
 
 fn signed(n: i64) -> String {
@@ -62,12 +64,21 @@ fn of_single(b: u32) {
         x as usize,
         signed(x as i64)
     );
+    row("ceil_f32", x.ceil());
+    row("round_f32", x.round());
+    row("sqrt_f32", x.sqrt());
 }
 
 fn of_double(b: u64) {
     let x = f64::from_bits(b);
     println!("narrow {b:016x} {:08x}", bits(x as f32));
     println!("f64_to_usize {b:016x} {:016x}", x as usize);
+    println!(
+        "trunc_floor_fract_f64 {b:016x} {:016x} {:016x} {:016x}",
+        bits64(x.trunc()),
+        bits64(x.floor()),
+        bits64(x.fract())
+    );
 }
 
 fn of_whole(n: u64) {

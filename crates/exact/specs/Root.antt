@@ -17,7 +17,7 @@ root n = rootBy (size n) n
 
 -- The value of the format f that is nearest to the square root of num / den, for a den above 0. In units of f's smallest value
 -- it is the root of n / den. Of its whole part w the format keeps the `prec` leading digits, q, and drops k, as `round` does.
--- The root is compared with q * 2 ^ k and half a 2 ^ k more by their squares.
+-- The root is compared with the middle, that is q and a half times 2 ^ k, by the squares of twice each.
 unfoldable pub rooted : Format → ℕ → ℕ → Float
 unfolding root size units
 rooted f num den =

@@ -1,4 +1,4 @@
-// Rounding to a whole number, and what is left of it. A result of zero has the sign of the operand.
+// Rounding to a whole number, where a zero keeps the sign, and the fraction that is cut off.
 ghost use mathlib.Core.Path.{_≡_};
 ghost use mathlib.Core.Bool.{false};
 ghost use lib.Dec.{T};
@@ -59,7 +59,7 @@ fn above_f32(x: f32) -> f32
     }
 }
 
-// The whole number that is nearest to x, and of two the larger: half of how many halves x has, and one more.
+// The whole number that is nearest to x, and of two the larger: with h whole halves in x it is (h + 1) / 2, cut.
 fn nearest_f32(x: f32) -> f32
     requires { ⌜ T (Ieee.lt (fin false 0 (pos 0)) x) ⌝ }
     ensures { λ r. ⌜ r ≡ integral binary32 tiesToAway x ⌝ }

@@ -28,6 +28,7 @@ fn whole_root(n: u64) -> u64
 // The pattern of the `f32` nearest to the square root of a number above 0 that is an `f32`, by its pattern b as an `f64`,
 // in which it has all its digits. Scaled by a power of four it is an even n of 49 or 50 digits, so that its root has 25:
 // the 24 that are kept, and one to round by. An even n is no square of an odd root, so that there is no tie.
+// The exponent's field e is from 874 to 1150.
 fn root_bits(b: u64) -> u32
     requires { ⌜ (3936146074321813504 ≤ b) × (b < 5183643171103440896) × (b % 32 ≡ 0) ⌝ }
     ensures { λ r. ⌜ (Ieee.ofBits binary32 r ≡ squareRoot binary32 (Ieee.ofBits binary64 b)) × (r ≤ 2139095040) ⌝ }

@@ -90,6 +90,16 @@ fn of_single(b: u32) {
     put_u32(b);
     put_f64(exact::format::widen(x));
     end();
+    cast_single(b);
+    whole_single(b);
+}
+
+// A single rounded to a whole number, and its square root.
+fn whole_single(b: u32) {
+    let x = exact::order::from_bits_f32(b);
+    row(b"ceil_f32", b, exact::integral::ceil_f32(x));
+    row(b"round_f32", b, exact::integral::round_f32(x));
+    row(b"sqrt_f32", b, exact::root::sqrt_f32(x));
 }
 
 // A single cast to each integer type.
@@ -107,7 +117,6 @@ fn cast_single(b: u32) {
 fn singles() {
     for i in 0..64 {
         of_single(tables::SINGLES[i]);
-        cast_single(tables::SINGLES[i]);
     }
 }
 
@@ -151,6 +160,18 @@ fn of_double(b: u64) {
     io::write_all(1, b"f64_to_usize");
     put_u64(b);
     put_u64(exact::cast::f64_to_usize(x) as u64);
+    end();
+    whole_double(b);
+}
+
+// A double cut to a whole number, rounded down, and what the cut leaves.
+fn whole_double(b: u64) {
+    let x = double(b);
+    io::write_all(1, b"trunc_floor_fract_f64");
+    put_u64(b);
+    put_f64(exact::integral::trunc_f64(x));
+    put_f64(exact::integral::floor_f64(x));
+    put_f64(exact::integral::fract_f64(x));
     end();
 }
 

@@ -21,15 +21,6 @@ array-read-of-single c = search needs
 of-single-requires : tie.Need-of-single-requires Inv-loop μ-loop
 of-single-requires c κs = search needs
 
-mul-cast-single : tie.Need-mul-cast-single Inv-loop μ-loop
-mul-cast-single c = search needs
-
-array-read-cast-single : tie.Need-array-read-cast-single Inv-loop μ-loop
-array-read-cast-single c = search needs
-
-cast-single-requires : tie.Need-cast-single-requires Inv-loop μ-loop
-cast-single-requires c κs = search needs
-
 add-i : tie.Need-add-i Inv-loop μ-loop
 add-i c = search needs
 
@@ -52,9 +43,6 @@ singles-spec =
     mul-of-single
     array-read-of-single
     of-single-requires
-    mul-cast-single
-    array-read-cast-single
-    cast-single-requires
     add-i
     loop-less
     loop-again
