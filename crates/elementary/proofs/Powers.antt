@@ -7,18 +7,21 @@ use native.Mathlib.Omega.{arith}
 use mathlib.Core.Bool.{Bool, true, false, not, _&&_, cond}
 use lib.Dec.{T, leb, leb→le, lit≤, lit<, ltb, ltb→lt}
 use lib.Pow.{pow-pos, pow-add, pow-mono}
-use lib.Ieee.{Float, nan, inf, fin, Format, binary32, binary64, ofBits, round, add, sub, neg, mul, sum, up, down}
+use lib.IntN.{pos}
+use lib.Ieee.{Float, nan, inf, fin, Format, binary32, binary64, ofBits, ofInt, toUnsigned, round, add, sub, neg, mul, sum, up, down}
 use lib.Ieee.Exact.{HasValue}
 use lib.Ieee.Positive.{num, den, den-pos, value→cross}
 use Rattle.elementary.specs.Fraction.{Within, Frac, hornerQ, LeQ, oneQ}
 use Rattle.elementary.proofs.Ratio.{within-trans, within-same, within-sym, within-weaken}
 use Rattle.exact.specs.Value.{plus}
-use Rattle.elementary.specs.Near.{Near, errors, upper, lower, rest, big, small}
+use Rattle.elementary.specs.Near.{Near}
+use Rattle.elementary.proofs.Errors.{errors, upper, lower, rest, big, small}
 use Rattle.elementary.proofs.Operations.{Fine, Range, round-within, mul-near}
 use Rattle.exact.proofs.Value.{value-plus}
-use Rattle.elementary.specs.Kernel.{hornerF, kernel}
+use Rattle.elementary.specs.Kernel.{kernel, powerUp, powerDown, Small}
 use Rattle.elementary.proofs.Horner.{Arg, Val, Close, half, fine, AtLeast, AtMost, range-of, within-atmost, within-atleast}
 use Rattle.elementary.proofs.Scale.{field-value}
+use Rattle.elementary.proofs.Whole.{trunc-is, trunc-most, whole-value, ceil-le}
 use Rattle.elementary.specs.Power.{series, ceil, E}
 use Rattle.elementary.proofs.Series.{kernel-near, kernel-val, series-pos, series-least, series-most, series-zero}
 
@@ -149,19 +152,6 @@ near-most n d a c u v t W C uv w k =
 pub fine32 : Fine binary32 4194304 8388607
 fine32 = record { twice = refl; least = lit≤ tt; most = lit≤ tt }
 
--- z within big / small of e, and e from 2 ^ -126 to 2 ^ 127: the `f32` nearest to z is within one part in 4194304 of e
-pub narrowed-near : (z : Float) (a c : ℕ) → 0 < c → Near big small z a c → c ≤ a * 2 ^ 126 → a ≤ c * 2 ^ 127 → Near 4194305 4194304 (round binary32 false (num z) (den z)) a c
-narrowed-near z a c C h l u =
-    let d1 : den z ≤ num z * (2 ^ 126 * 2) = near-least (num z) (den z) a c big small (2 ^ 126) (lit< tt) C (lit≤ tt) (h .within) l in
-    let d2 : 4194304 * den z ≤ num z * 2 ^ 149 = le-trans (mul-le-mul-left 4194304 d1) (le-of-eq (mul-left-comm 4194304 (num z) (2 ^ 127))) in
-    let R : Range binary32 4194304 (num z) (den z) = record { below = inr d2; above = near-most (num z) (den z) a c big small (2 ^ 127) (lit< tt) C (lit≤ tt) (h .within) u } in
-    let q = round binary32 false (num z) (den z) in
-    let w = round-within binary32 4194304 8388607 (num z) (den z) fine32 (den-pos z) R in
-    record {
-      sign = w .0;
-      within = within-weaken (8388608 * big) (8388607 * small) 4194305 4194304 (num q) (den q) a c (lit< tt) (lit≤ tt) (within-trans 8388608 8388607 big small (num q) (den q) (num z) (den z) a c (den-pos z) (w .1) (h .within));
-    }
-
 -- ---- where E lies
 abbrev pub restUp : ℕ → ℕ → Frac
 restUp a c = record { top = a % c; bot = c }
@@ -198,10 +188,6 @@ up-most a c C h =
       | inr l ↦ up-cases (s .top) (s .bot) (a / c) (2 ^ (a / c)) (series-most (restUp a c) (le-of-lt (mod-lt a C))) (pow-mono l)
     ]
 
--- the ceiling
-pub ceil-most : (a c : ℕ) → 0 < c → a ≤ 126 * c → ceil a c ≤ 126
-ceil-most a c C h = le-of-suc-le-suc (div-lt-iff-lt-mul C .1 (omega arith))
-
 pub down-rest : (a c : ℕ) → 0 < c → ceil a c * c - a ≤ c
 down-rest a c C = omega (arith, div-mul-le-self (a + (c - 1)) c)
 
@@ -209,7 +195,7 @@ pub down-least : (a c : ℕ) → 0 < c → a ≤ 126 * c → E true a c .bot ≤
 unfolding E
 down-least a c C h =
     let s = series (restDown a c) in
-    mul-le-mul (le-trans (le-of-eq (sym (one-mul (s .bot)))) (le-trans (series-least (restDown a c)) (le-of-eq (mul-one (s .top))))) (pow-mono (ceil-most a c C h))
+    mul-le-mul (le-trans (le-of-eq (sym (one-mul (s .bot)))) (le-trans (series-least (restDown a c)) (le-of-eq (mul-one (s .top))))) (pow-mono (ceil-le 126 a c C h))
 
 pub down-most : (a c : ℕ) → 0 < c → E true a c .top ≤ E true a c .bot * 2 ^ 127
 unfolding E
@@ -286,10 +272,7 @@ scale-down t b k h = regroup t b (2 ^ (1023 - k)) (2 ^ k) ∙ ap (λ (z : ℕ). 
     back : (k : ℕ) → k ≤ 1023 → 1023 - k + k ≡ 1023
     back k h = omega arith
 
-pub ceil-127 : (a c : ℕ) → 0 < c → a ≤ 127 * c → ceil a c ≤ 127
-ceil-127 a c C h = le-of-suc-le-suc (div-lt-iff-lt-mul C .1 (omega arith))
-
-pub exp2-down : (y k : Float) → T (plus y) → den y ≤ 2 ^ 250 → num y ≤ 127 * den y → HasValue k false (ceil (num y) (den y)) 1
+pub exp2-down : (y k : Float) → T (plus y) → den y ≤ 2 ^ 250 → num y ≤ 128 * den y → HasValue k false (ceil (num y) (den y)) 1
     → Near big small (mul binary64 (kernel (sub binary64 k y)) (ofBits binary64 ((1023 - ceil (num y) (den y)) * 4503599627370496))) (E true (num y) (den y) .top) (E true (num y) (den y) .bot)
 unfolding E
 exp2-down y k p f h v =
@@ -298,7 +281,7 @@ exp2-down y k p f h v =
     let n = ceil a c in
     let X = restDown a c in
     let w = whole-cross k n v in
-    let N : n ≤ 127 = ceil-127 a c (den-pos y) h in
+    let N : n ≤ 128 = ceil-le 128 a c (den-pos y) h in
     let A = sub-arg k y (n * c - a) c (value-plus k n 1 v) p (order-down a c n (num k) (den k) w (ceil-ge a c (den-pos y))) (den-pos y) f (down-rest a c (den-pos y)) (left-down a c n (num k) (den k) w (ceil-ge a c (den-pos y))) in
     let r = sub binary64 k y in
     let z = mul binary64 (kernel r) (ofBits binary64 ((1023 - n) * 4503599627370496)) in
@@ -307,6 +290,25 @@ exp2-down y k p f h v =
       sign = q .sign;
       within = within-same big small (num z) (den z) (series X .top * 2 ^ (1023 - n)) (series X .bot * 2 ^ 1023) (series X .top) (series X .bot * 2 ^ n) (mul-pos (series-pos X (den-pos y)) (pow-pos 1023)) (scale-down (series X .top) (series X .bot) n (omega arith)) (q .within);
     }
+
+-- ---- the program's two pieces
+pub up-near : (y : Float) → Small 128 y → Near big small (powerUp y) (E false (num y) (den y) .top) (E false (num y) (den y) .bot)
+unfolding powerUp
+up-near y h =
+    let n = toUnsigned 64 y in
+    let q : n ≡ num y / den y = trunc-is 128 y (lit≤ tt) h in
+    let N : n ≤ 1000 = le-trans (trunc-most 128 n y (lit≤ tt) h refl) (lit≤ tt) in
+    let k = ofInt binary64 (pos n) in
+    let v : HasValue k false (num y / den y) 1 = subst (λ (x : ℕ). HasValue k false x 1) q (whole-value n N) in
+    subst (λ (x : ℕ). Near big small (mul binary64 (kernel (sub binary64 y k)) (ofBits binary64 ((x + 1023) * 4503599627370496))) (E false (num y) (den y) .top) (E false (num y) (den y) .bot)) (sym q)
+    (exp2-up y k (h .sign) (h .digits) (h .most) v)
+
+pub down-near : (y : Float) → Small 128 y → Near big small (powerDown y) (E true (num y) (den y) .top) (E true (num y) (den y) .bot)
+unfolding powerDown
+down-near y h =
+    let n = ceil (num y) (den y) in
+    let N : n ≤ 1000 = le-trans (ceil-le 128 (num y) (den y) (den-pos y) (h .most)) (lit≤ tt) in
+    exp2-down y (ofInt binary64 (pos n)) (h .sign) (h .digits) (h .most) (whole-value n N)
 
 pub E-pos : (s : Bool) (a c : ℕ) → 0 < c → 0 < E s a c .bot
 unfolding E
