@@ -18,3 +18,4 @@ pub mod Shift
 pub mod ExpFn
 pub mod Bases
 pub mod Trig
+pub mod HalfDifference

@@ -2,7 +2,7 @@
 use mathlib.Core.Path.{_≡_, refl, sym, ap, ap₂, _∙_, subst, subst₂}
 use mathlib.Core.Logic.{_⊎_, inl, inr}
 use Prim.Native.Nat.{ℕ, zero, suc, _+_, _-_, _*_, _/_, _%_, _^_, _≤_, _<_}
-use native.Mathlib.Nat.{le-refl, le-trans, le-of-eq, le-of-lt, mul-pos, mul-comm, mul-assoc, mul-left-comm, mul-right-comm, mul-le-mul-right, mul-le-mul-left, mul-le-mul, le-of-mul-le-mul-right, mod-lt, div-add-mod', mul-one, one-mul, eq-zero-or-pos, zero-mul, eq-or-lt-of-le, le-of-suc-le-suc, div-lt-iff-lt-mul, div-mul-le-self, mul-sub, div-eq-of-lt, mod-eq-of-lt}
+use native.Mathlib.Nat.{le-refl, le-trans, le-of-eq, le-of-lt, mul-pos, mul-comm, mul-assoc, mul-left-comm, mul-right-comm, mul-le-mul-right, mul-le-mul-left, mul-le-mul, le-of-mul-le-mul-right, mod-lt, div-add-mod', mul-one, one-mul, eq-zero-or-pos, zero-mul, eq-or-lt-of-le, le-of-suc-le-suc, div-lt-iff-lt-mul, div-mul-le-self, mul-sub, div-eq-of-lt, mod-eq-of-lt, pow-suc}
 use native.Mathlib.Omega.{arith}
 use mathlib.Core.Bool.{Bool, true, false, not, _&&_, cond}
 use lib.Dec.{T, leb, leb→le, lit≤, lit<, ltb, ltb→lt}
@@ -166,27 +166,33 @@ pub up-least : (a c : ℕ) → E false a c .bot ≤ E false a c .top * 2 ^ 126
 unfolding E
 up-least a c = let s = series (restUp a c) in three (s .bot) (s .top) (2 ^ (a / c)) (2 ^ 126) (series-least (restUp a c)) (pow-pos (a / c)) (pow-pos 126)
 
-at-most-127 : (k c r : ℕ) → 0 < c → k * c + r ≤ 127 * c → k ≤ 127
-at-most-127 k c r C h = le-of-mul-le-mul-right {k = c} (omega arith) C
+at-most : (t k c r : ℕ) → 0 < c → k * c + r ≤ t * c → k ≤ t
+at-most t k c r C h = le-of-mul-le-mul-right {k = c} (omega arith) C
 
-whole-127 : (k c r : ℕ) → k * c + r ≤ 127 * c → k ≡ 127 → r ≡ 0
-whole-127 k c r h e = omega (arith, ap (λ (z : ℕ). z * c) e)
+whole : (t k c r : ℕ) → k * c + r ≤ t * c → k ≡ t → r ≡ 0
+whole t k c r h e = omega (arith, ap (λ (z : ℕ). z * c) e)
 
-up-cases : (t b k p : ℕ) → t * 1 ≤ 2 * b → p ≤ 2 ^ 126 → t * p ≤ b * 2 ^ 127
-up-cases t b k p h l = le-trans (mul-le-mul (le-trans (le-of-eq (sym (mul-one t))) h) l) (le-of-eq (ap (λ (z : ℕ). z * 2 ^ 126) (mul-comm 2 b) ∙ mul-assoc b 2 (2 ^ 126)))
+up-cases : (t b p q : ℕ) → t * 1 ≤ 2 * b → p ≤ q → t * p ≤ b * (q * 2)
+up-cases t b p q h l = le-trans (mul-le-mul (le-trans (le-of-eq (sym (mul-one t))) h) l) (le-of-eq (turn b q))
+  where
+    turn : (b q : ℕ) → 2 * b * q ≡ b * (q * 2)
+    turn b q = omega arith
 
-split-127 : (k : ℕ) → k ≤ 127 → (k ≡ 127) ⊎ (k ≤ 126)
-split-127 k h = elim (eq-or-lt-of-le h) [ inl e ↦ inl e | inr l ↦ inr (le-of-suc-le-suc l) ]
+split : (t k : ℕ) → k ≤ suc t → (k ≡ suc t) ⊎ (k ≤ t)
+split t k h = elim (eq-or-lt-of-le h) [ inl e ↦ inl e | inr l ↦ inr (le-of-suc-le-suc l) ]
+
+pub up-most-at : (t a c : ℕ) → 0 < c → a ≤ suc t * c → E false a c .top ≤ E false a c .bot * 2 ^ suc t
+unfolding E
+up-most-at t a c C h =
+    let s = series (restUp a c) in
+    let g : a / c * c + a % c ≤ suc t * c = le-trans (le-of-eq (div-add-mod' a c)) h in
+    elim (split t (a / c) (at-most (suc t) (a / c) c (a % c) C g)) [
+      | inl e ↦ mul-le-mul (le-trans (le-of-eq (sym (mul-one (s .top)))) (le-trans (series-zero (restUp a c) (whole (suc t) (a / c) c (a % c) g e)) (le-of-eq (one-mul (s .bot))))) (pow-mono (le-of-eq e))
+      | inr l ↦ le-trans (up-cases (s .top) (s .bot) (2 ^ (a / c)) (2 ^ t) (series-most (restUp a c) (le-of-lt (mod-lt a C))) (pow-mono l)) (le-of-eq (ap (λ (z : ℕ). s .bot * z) (sym (pow-suc 2 t))))
+    ]
 
 pub up-most : (a c : ℕ) → 0 < c → a ≤ 127 * c → E false a c .top ≤ E false a c .bot * 2 ^ 127
-unfolding E
-up-most a c C h =
-    let s = series (restUp a c) in
-    let g : a / c * c + a % c ≤ 127 * c = le-trans (le-of-eq (div-add-mod' a c)) h in
-    elim (split-127 (a / c) (at-most-127 (a / c) c (a % c) C g)) [
-      | inl e ↦ mul-le-mul (le-trans (le-of-eq (sym (mul-one (s .top)))) (le-trans (series-zero (restUp a c) (whole-127 (a / c) c (a % c) g e)) (le-of-eq (one-mul (s .bot))))) (pow-mono (le-of-eq e))
-      | inr l ↦ up-cases (s .top) (s .bot) (a / c) (2 ^ (a / c)) (series-most (restUp a c) (le-of-lt (mod-lt a C))) (pow-mono l)
-    ]
+up-most = up-most-at 126
 
 pub down-rest : (a c : ℕ) → 0 < c → ceil a c * c - a ≤ c
 down-rest a c C = omega (arith, div-mul-le-self (a + (c - 1)) c)
@@ -225,9 +231,6 @@ scale-up t b k = ap (λ (z : ℕ). t * z * b) (pow-add 2 k 1023) ∙ regroup t b
     regroup : (t b p q : ℕ) → t * (p * q) * b ≡ t * p * (b * q)
     regroup t b p q = omega arith
 
-at-most-128 : (k c r : ℕ) → 0 < c → k * c + r ≤ 128 * c → k ≤ 128
-at-most-128 k c r C h = le-of-mul-le-mul-right {k = c} (omega arith) C
-
 pub exp2-up : (y k : Float) → T (plus y) → den y ≤ 2 ^ 250 → num y ≤ 128 * den y → HasValue k false (num y / den y) 1
     → Near big small (mul binary64 (kernel (sub binary64 y k)) (ofBits binary64 ((num y / den y + 1023) * 4503599627370496))) (E false (num y) (den y) .top) (E false (num y) (den y) .bot)
 unfolding E
@@ -238,7 +241,7 @@ exp2-up y k p f h v =
     let X = restUp a c in
     let w = whole-cross k n v in
     let g : n * c + a % c ≤ 128 * c = le-trans (le-of-eq (div-add-mod' a c)) h in
-    let N : n ≤ 128 = at-most-128 n c (a % c) (den-pos y) g in
+    let N : n ≤ 128 = at-most 128 n c (a % c) (den-pos y) g in
     let A = sub-arg y k (a % c) c p (value-plus k n 1 v) (order-up a c n (num k) (den k) w (div-mul-le-self a c)) (den-pos y) f (le-of-lt (mod-lt a (den-pos y))) (left-up a c n (num k) (den k) (a % c) w (div-add-mod' a c)) in
     let r = sub binary64 y k in
     let z = mul binary64 (kernel r) (ofBits binary64 ((n + 1023) * 4503599627370496)) in
@@ -314,6 +317,20 @@ pub E-pos : (s : Bool) (a c : ℕ) → 0 < c → 0 < E s a c .bot
 unfolding E
 E-pos false a c C = series-pos (restUp a c) C
 E-pos true a c C = mul-pos (series-pos (restDown a c) C) (pow-pos (ceil a c))
+
+-- E at a negative number is at most 1
+pub down-one : (a c : ℕ) → 0 < c → 0 < a → E true a c .top ≤ E true a c .bot
+unfolding E
+down-one a c C A =
+    let s = series (restDown a c) in
+    le-trans (le-of-eq (sym (mul-one (s .top)))) (le-trans (series-most (restDown a c) (down-rest a c C)) (le-trans (le-of-eq (mul-comm 2 (s .bot))) (mul-le-mul-left (s .bot) (pow-mono {i = 1} {j = ceil a c} (some (ceil a c) a c A (ceil-ge a c C))))))
+  where
+    some : (n a c : ℕ) → 0 < a → a ≤ n * c → 1 ≤ n
+    some zero a c h k = absurd (bad h k)
+      where
+        bad : 0 < a → a ≤ 0 * c → ⊥
+        bad h k = omega arith
+    some (suc n) a c h k = omega arith
 
 -- ---- at zero it is 1
 zero-up : (t b k : ℕ) → k ≡ 0 → t * 1 ≤ 1 * b → t * 2 ^ k * 1 ≤ 1 * b
