@@ -2,7 +2,7 @@
 -- Assumes nothing.
 use mathlib.Core.Path.{_≡_, refl, sym, ap, _∙_, subst}
 use mathlib.Core.Logic.{_⊎_, inl, inr}
-use Prim.Native.Nat.{ℕ, zero, suc, _+_, _-_, _*_, _%_, _^_, _≤_, _<_, suc-le-suc}
+use Prim.Native.Nat.{ℕ, zero, suc, _+_, _-_, _*_, _/_, _%_, _^_, _≤_, _<_, suc-le-suc}
 use native.Mathlib.Nat.{le-refl, le-trans, le-of-eq, lt-of-lt-of-le, mul-pos, mul-comm, mul-assoc, mul-left-comm, mul-le-mul-right, mul-le-mul-left, mul-le-mul, le-of-mul-le-mul-right, lt-of-mul-lt-mul-right, mul-one, zero-mul, not-le-of-lt, mul-lt-mul-of-pos-right, pow-suc}
 use native.Mathlib.Omega.{arith}
 use mathlib.Core.Bool.{Bool, true, false, not, _&&_, cond, true≢false}
@@ -21,7 +21,7 @@ use Rattle.elementary.specs.Fraction.{Within, Frac, LeQ, oneQ, over}
 use Rattle.elementary.specs.Power.{E}
 use Rattle.elementary.specs.Near.{Near}
 use Rattle.elementary.specs.Kernel.{powerUp, powerDown, powerBy, Small, Ranged}
-use Rattle.elementary.specs.Promise.{Part, Answers, PowerOf}
+use Rattle.elementary.specs.Promise.{parts, Part, Answers, PowerOf}
 use Rattle.elementary.proofs.Errors.{upper, lower, big, small}
 use Rattle.elementary.proofs.Ratio.{within-refl, within-trans, within-weaken}
 use Rattle.elementary.proofs.Operations.{Range, mul-is, round-within}
@@ -138,17 +138,17 @@ module _ (l x : Float) (a c t b : ℕ) (F : Factor l a c) (X : Tiny t b a c x) (
   down-wide = join true (powerDown y) (down-near y product-small)
       (E-near-true (num y) (den y) (num x * a) (den x * c) (lower ^ 2) (upper ^ 2 - lower ^ 2) (den-pos y) exact-pos (lit< tt) (product-small .most) exact-most (lit≤ tt) (product-close .within))
 
--- ---- narrowing: a double within u / v of a figure from 2 ^ -126 to 2 ^ 127 becomes a single within one part in 4194304 of it
+-- ---- narrowing: a double within u / v of a figure from 2 ^ -126 to 2 ^ 127 becomes a single within one part in 4,194,304 of it
 pub record Tight (u v : ℕ) : Type 0 where
   pub v-pos : 0 < v
   pub twice : u ≤ v * 2
   pub half-more : 2 * u ≤ 3 * v
-  pub part : 8388608 * u * 4194304 ≤ 4194305 * (8388607 * v)
+  pub part : 8388608 * u * parts ≤ (parts + 1) * (8388607 * v)
 
-part-of : (q : Frac) (r : Float) → Near 4194305 4194304 r (q .top) (q .bot) → Part q r
+part-of : (q : Frac) (r : Float) → Near (parts + 1) parts r (q .top) (q .bot) → Part q r
 part-of q r h = record { sign = h .sign; most = h .within .0; least = turn (q .top * den r) (num r * q .bot) (h .within .1) }
   where
-    turn : (a b : ℕ) → a * 4194304 ≤ b * 4194305 → a * 4194303 ≤ b * 4194304
+    turn : (a b : ℕ) → a * parts ≤ b * (parts + 1) → a * (parts - 1) ≤ b * parts
     turn a b h = omega arith
 
 pub narrowed-part : (u v : ℕ) → Tight u v → (z : Float) (q : Frac) → 0 < q .bot → Near u v z (q .top) (q .bot) → q .bot ≤ q .top * 2 ^ 126 → q .top ≤ q .bot * 2 ^ 127 → Part q (narrowed z)
@@ -160,11 +160,11 @@ narrowed-part u v G z q C h l m =
     let R : Range binary32 4194304 (num z) (den z) = record { below = inr d2; above = near-most (num z) (den z) a c u v (2 ^ 127) (G .v-pos) C (G .half-more) (h .within) m } in
     let r = round binary32 false (num z) (den z) in
     let w = round-within binary32 4194304 8388607 (num z) (den z) fine32 (den-pos z) R in
-    let n : Near 4194305 4194304 r a c = record {
+    let n : Near (parts + 1) parts r a c = record {
       sign = w .0;
-      within = within-weaken (8388608 * u) (8388607 * v) 4194305 4194304 (num r) (den r) a c (mul-pos (lit< {m = 0} {n = 8388607} tt) (G .v-pos)) (G .part) (within-trans 8388608 8388607 u v (num r) (den r) (num z) (den z) a c (den-pos z) (w .1) (h .within));
+      within = within-weaken (8388608 * u) (8388607 * v) (parts + 1) parts (num r) (den r) a c (mul-pos (lit< {m = 0} {n = 8388607} tt) (G .v-pos)) (G .part) (within-trans 8388608 8388607 u v (num r) (den r) (num z) (den z) a c (den-pos z) (w .1) (h .within));
     } in
-    part-of q (narrowed z) (subst (λ (y : Float). Near 4194305 4194304 y a c) (sym (narrowed-plus z (h .sign))) n)
+    part-of q (narrowed z) (subst (λ (y : Float). Near (parts + 1) parts y a c) (sym (narrowed-plus z (h .sign))) n)
 
 wide-tight : Tight wide-top wide-bot
 wide-tight = record { v-pos = lit< tt; twice = lit≤ tt; half-more = lit≤ tt; part = lit≤ tt }
@@ -351,13 +351,94 @@ module _ {l : Float} {L : ℕ} {i : ℤ} {v K H : ℕ} {j : ℤ} {w M a c : ℕ}
           none : (x d : ℕ) → x * 1 + 0 * 1 * d ≤ 0 → x ≡ 0
           none x d h = omega arith
 
-  pub power-of : (x : Float) → T (fits binary32 x) → PowerOf a c x (powerBy l (fin true L i) (fin false H j) x)
+  power-of : (x : Float) → T (fits binary32 x) → PowerOf a c x (powerBy l (fin true L i) (fin false H j) x)
   unfolding powerBy isNan lt fits
   power-of nan f = refl
   power-of (inf false) f = refl
   power-of (inf true) f = refl
   power-of (fin false m e) f = positive m e f
   power-of (fin true m e) f = negative m e f
+
+-- the tests that the checker computes: of the factor, of an end, and of a base with its two ends
+abbrev factor-ok : Float → ℕ → ℕ → Bool
+factor-ok l a c =
+    plus l && (leb (num l * c * lower ^ 1) (a * den l * upper ^ 1) && (leb (a * den l * lower ^ 1) (num l * c * upper ^ 1)
+    && (ltb 0 c && (leb (den l) (num l) && (leb (num l) (4 * den l) && leb c a)))))
+
+pub factor-of : (l : Float) (a c : ℕ) → T (factor-ok l a c) → Factor l a c
+factor-of l a c t =
+    let A = leb (num l * c * lower ^ 1) (a * den l * upper ^ 1) in
+    let B = leb (a * den l * lower ^ 1) (num l * c * upper ^ 1) in
+    let C = ltb 0 c in
+    let D = leb (den l) (num l) in
+    let G = leb (num l) (4 * den l) in
+    let H = leb c a in
+    let t1 = and-r (plus l) (A && (B && (C && (D && (G && H))))) t in
+    let t2 = and-r A (B && (C && (D && (G && H)))) t1 in
+    let t3 = and-r B (C && (D && (G && H))) t2 in
+    let t4 = and-r C (D && (G && H)) t3 in
+    let t5 = and-r D (G && H) t4 in
+    record {
+      close = record {
+        sign = and-l (plus l) (A && (B && (C && (D && (G && H))))) t;
+        within = (leb→le (num l * c * lower ^ 1) (a * den l * upper ^ 1) (and-l A (B && (C && (D && (G && H)))) t1), leb→le (a * den l * lower ^ 1) (num l * c * upper ^ 1) (and-l B (C && (D && (G && H))) t2));
+      };
+      c-pos = ltb→lt 0 c (and-l C (D && (G && H)) t3);
+      least = leb→le (den l) (num l) (and-l D (G && H) t4);
+      most = leb→le (num l) (4 * den l) (and-l G H t5);
+      ge = leb→le c a (and-r G H t5);
+    }
+
+abbrev end-ok : ℕ → ℕ → ℤ → ℕ → ℕ → ℕ → Bool
+end-ok t L i w a c =
+    let K = L * up i * 2 ^ w / down i in
+    eqb (L * up i * 2 ^ w) (K * down i) && (leb 8388608 K && (leb (K * a) (t * c * 2 ^ w) && ltb (t * c * 2 ^ w) (suc K * a)))
+
+end-of : (t L : ℕ) (i : ℤ) (w a c : ℕ) → T (end-ok t L i w a c) → End t L i w (L * up i * 2 ^ w / down i) a c
+end-of t L i w a c h =
+    let K = L * up i * 2 ^ w / down i in
+    let A = eqb (L * up i * 2 ^ w) (K * down i) in
+    let B = leb 8388608 K in
+    let C = leb (K * a) (t * c * 2 ^ w) in
+    let D = ltb (t * c * 2 ^ w) (suc K * a) in
+    let h1 = and-r A (B && (C && D)) h in
+    let h2 = and-r B (C && D) h1 in
+    record {
+      same = eqb→eq (L * up i * 2 ^ w) (K * down i) (and-l A (B && (C && D)) h);
+      normal = leb→le 8388608 K (and-l B (C && D) h1);
+      last = leb→le (K * a) (t * c * 2 ^ w) (and-l C D h2);
+      next = ltb→lt (t * c * 2 ^ w) (suc K * a) (and-r C D h2);
+    }
+
+-- on a grid of 2 ^ -v below and 2 ^ -w above
+abbrev base-ok : ℕ → ℕ → ℕ → ℕ → Float → Float → Float → Bool
+base-ok a c v w l nan most = false
+base-ok a c v w l (inf s) most = false
+base-ok a c v w l (fin false L i) most = false
+base-ok a c v w l (fin true L i) nan = false
+base-ok a c v w l (fin true L i) (inf s) = false
+base-ok a c v w l (fin true L i) (fin true H j) = false
+base-ok a c v w l (fin true L i) (fin false H j) = factor-ok l a c && (end-ok 126 L i v a c && end-ok 127 H j w a c)
+
+-- `powerBy` meets the promise
+pub power-base : (a c v w : ℕ) (l least most x : Float) → T (base-ok a c v w l least most) → T (fits binary32 x) → PowerOf a c x (powerBy l least most x)
+power-base a c v w l nan most x t f = absurd t
+power-base a c v w l (inf s) most x t f = absurd t
+power-base a c v w l (fin false L i) most x t f = absurd t
+power-base a c v w l (fin true L i) nan x t f = absurd t
+power-base a c v w l (fin true L i) (inf s) x t f = absurd t
+power-base a c v w l (fin true L i) (fin true H j) x t f = absurd t
+power-base a c v w l (fin true L i) (fin false H j) x t f =
+    let A = factor-ok l a c in
+    let B = end-ok 126 L i v a c in
+    let C = end-ok 127 H j w a c in
+    let u = and-r A (B && C) t in
+    let N : Base l L i v (L * up i * 2 ^ v / down i) H j w (H * up j * 2 ^ w / down j) a c = record {
+      factor = factor-of l a c (and-l A (B && C) t);
+      bottom = end-of 126 L i v a c (and-l B C u);
+      top = end-of 127 H j w a c (and-r B C u);
+    } in
+    power-of N x f
 
 -- ---- the program's `power_by`: its products are small enough, and what it returns is `powerBy`
 ranged : (f : Float) (t L : ℕ) (i : ℤ) → t ≤ 127 → T (plus f) → den f ≤ num f → num f ≤ 4 * den f → L * up i * num f ≤ t * (down i * den f)
@@ -384,7 +465,7 @@ ranged-down f (fin true L i) most (fin false m e) R F h k = absurd (bad (m * up 
     bad : (a d : ℕ) → a < 0 * d → ⊥
     bad a d h = omega arith
 ranged-down f (fin true L i) most (fin true m e) R F h k =
-    ranged f 127 L i (lit≤ tt) (R .sign) (R .from) (R .to) (R .bottom) m e F (some (m * up e) (down e) (ltb→lt 0 (m * up e * 1 + 0 * 1 * down e) (subst T (sym k) tt))) (nltb→le (L * up i * down e) (m * up e * down i) (fail h))
+    ranged f 126 L i (lit≤ tt) (R .sign) (R .from) (R .to) (R .bottom) m e F (some (m * up e) (down e) (ltb→lt 0 (m * up e * 1 + 0 * 1 * down e) (subst T (sym k) tt))) (nltb→le (L * up i * down e) (m * up e * down i) (fail h))
   where
     some : (x d : ℕ) → 0 < x * 1 + 0 * 1 * d → 0 < x
     some x d h = omega arith

@@ -27,8 +27,7 @@ use Rattle.elementary.proofs.Operations.{Range, round-within, mul-near}
 use Rattle.elementary.proofs.Horner.{half, fine, range-of, within-atleast, within-atmost}
 use Rattle.elementary.proofs.Powers.{sub-is, E-pos, up-most-at, down-one}
 use Rattle.elementary.proofs.Line.{E-line}
-use Rattle.elementary.proofs.ExpFn.{Cap, Tiny, Tight, End, beyond, inside, product-small, up-wide, down-wide, wide-top, wide-bot, narrowed-part, in-range, over-range, few-digits}
-use Rattle.elementary.proofs.Bases.{natural}
+use Rattle.elementary.proofs.ExpFn.{Factor, factor-of, Cap, Tiny, Tight, End, beyond, inside, product-small, up-wide, down-wide, wide-top, wide-bot, narrowed-part, in-range, over-range, few-digits}
 
 -- ---- a difference: p and n within one part in 10 ^ 11 of P and N, N at most 4097 / 4098 of P; then p - n is within 8203 parts in 10 ^ 11 of P - N
 abbrev Close11 : ℕ → ℕ → Type 0
@@ -249,6 +248,10 @@ gap n d D N h = wide (E true (n * a) (d * c) .top) (E false (n * a) (d * c) .bot
     wide w x y z h k = omega (arith, mul-le-mul h k)
 
 -- ---- within the range
+factor : Factor (ofBits binary64 0x3ff71547652b82fe) a c
+unfolding ofBits
+factor = factor-of (ofBits binary64 0x3ff71547652b82fe) a c tt
+
 top-last : End 12799999 11629079 (negsuc 16) 17 11629079 (a * 100000) c
 top-last = record { same = refl; normal = lit≤ tt; last = lit≤ tt; next = lit< tt }
 
@@ -272,7 +275,7 @@ module _ (m : ℕ) (e : ℤ) (F : T (fits binary32 (fin false m e))) (low-end : 
   l = ofBits binary64 0x3ff71547652b82fe
 
   pub sinh-small : Small 128 (mul binary64 x l)
-  sinh-small = product-small l x a c 12799999 100000 (natural .factor) tiny cap
+  sinh-small = product-small l x a c 12799999 100000 factor tiny cap
 
   abbrev P : Frac
   P = E false (m * up e * a) (down e * c)
@@ -302,10 +305,10 @@ module _ (m : ℕ) (e : ℤ) (F : T (fits binary32 (fin false m e))) (low-end : 
   n = powerDown (mul binary64 x l)
 
   p-near : Near 100000000001 100000000000 p (P .top) (P .bot)
-  p-near = eleven p P (up-wide l x a c 12799999 100000 (natural .factor) tiny cap)
+  p-near = eleven p P (up-wide l x a c 12799999 100000 factor tiny cap)
 
   n-near : Near 100000000001 100000000000 n (N .top) (N .bot)
-  n-near = eleven n N (down-wide l x a c 12799999 100000 (natural .factor) tiny cap)
+  n-near = eleven n N (down-wide l x a c 12799999 100000 factor tiny cap)
 
   P-pos : 0 < P .bot
   P-pos = E-pos false (m * up e * a) (down e * c) C-pos

@@ -16,6 +16,5 @@ pub mod Difference
 pub mod Digits
 pub mod Shift
 pub mod ExpFn
-pub mod Bases
 pub mod Trig
 pub mod HalfDifference

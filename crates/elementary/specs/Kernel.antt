@@ -51,12 +51,12 @@ pub record Small (t : ℕ) (y : Float) : Type 0 where
   pub digits : den y ≤ 2 ^ 250
   pub most : num y ≤ t * den y
 
--- a factor from 1 to 4, a least argument that is negative and a greatest that is not, each at most 127 in size times the factor
+-- a factor from 1 to 4, a least argument of -126 and a greatest of 127 at most, each times the factor
 pub record Ranged (factor least most : Float) : Type 0 where
   pub sign : T (plus factor)
   pub from : den factor ≤ num factor
   pub to : num factor ≤ 4 * den factor
   pub negative : T (plus (neg least))
-  pub bottom : num least * num factor ≤ 127 * (den least * den factor)
+  pub bottom : num least * num factor ≤ 126 * (den least * den factor)
   pub positive : T (plus most)
   pub top : num most * num factor ≤ 127 * (den most * den factor)

@@ -3,7 +3,7 @@
 -- the result, and everywhere else it says what the result is.
 use mathlib.Core.Path.{_≡_}
 use mathlib.Core.Bool.{Bool, true, false, cond}
-use Prim.Native.Nat.{ℕ, _*_, _^_, _≤_, _<_}
+use Prim.Native.Nat.{ℕ, _+_, _-_, _*_, _^_, _≤_, _<_}
 use lib.Dec.{T}
 use lib.IntN.{pos}
 use lib.Ieee.{Float, nan, inf, fin, up, down}
@@ -12,11 +12,15 @@ use Rattle.exact.specs.Value.{plus}
 use Rattle.elementary.specs.Fraction.{Frac}
 use Rattle.elementary.specs.Power.{E}
 
--- "within one part in 4,194,304 of" q: r is finite and not negative, r ≤ q + q / 4194304 and r ≥ q - q / 4194304
+-- "one part in 4,194,304"
+abbrev pub parts : ℕ
+parts = 4194304
+
+-- r "within one part" of q: r is finite and not negative, r ≤ q + q / parts and r ≥ q - q / parts
 pub record Part (q : Frac) (r : Float) : Type 0 where
   pub sign : T (plus r)
-  pub most : num r * q .bot * 4194304 ≤ q .top * den r * 4194305
-  pub least : q .top * den r * 4194303 ≤ num r * q .bot * 4194304
+  pub most : num r * q .bot * parts ≤ q .top * den r * (parts + 1)
+  pub least : q .top * den r * (parts - 1) ≤ num r * q .bot * parts
 
 -- r is a result for the exact figure q
 pub record Answers (q : Frac) (r : Float) : Type 0 where

@@ -1,6 +1,7 @@
 // The hyperbolic sine, as half the difference of e^x and e^-x in doubles, narrowed. From 2^-12 up the difference keeps
 // digits enough: the two differ by 2^-11 at least, and each is off by less than 2^-36 of itself.
 ghost use Rattle.elementary.specs.Hyperbolic.{Sinh};
+use crate::power::LOG2_E;
 use crate::power::power_down;
 use crate::power::power_up;
 use exact::format::narrow;
@@ -18,6 +19,6 @@ pub fn sinh(x: f32) -> f32
     if x > 88.72283172607422 {
         return 1.0 / 0.0;
     }
-    let y = x as f64 * 1.4426950408889634;
+    let y = x as f64 * LOG2_E;
     narrow((power_up(y) - power_down(y)) * 0.5)
 }
