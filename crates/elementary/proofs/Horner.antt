@@ -16,7 +16,8 @@ use Rattle.elementary.specs.Fraction.{Le, Within, Frac, plusQ, timesQ, h
 use Rattle.elementary.proofs.Ratio.{within-same, within-sym, within-trans, within-mul, within-add, within-weaken}
 use Rattle.exact.specs.Value.{plus}
 use Rattle.elementary.proofs.Operations.{Fine, Range, mul-near, add-near, mul-is, add-is, round-within}
-use Rattle.elementary.specs.Near.{Near, upper, lower, errors}
+use Rattle.elementary.specs.Near.{Near}
+use Rattle.elementary.proofs.Errors.{upper, lower, errors}
 use Rattle.elementary.specs.Power.{E}
 use Rattle.elementary.specs.Kernel.{hornerF}
 

@@ -1,12 +1,14 @@
+pub mod Errors
 pub mod Ratio
 pub mod Operations
 pub mod Horner
 pub mod Truncation
 pub mod Series
 pub mod Scale
+pub mod Whole
 pub mod Powers
-pub mod Exp2
 pub mod Lipschitz
+pub mod Line
 pub mod Root
 pub mod Mean
 pub mod Near
@@ -15,3 +17,4 @@ pub mod Digits
 pub mod Shift
 pub mod ExpFn
 pub mod Trig
+pub mod HalfDifference

@@ -14,7 +14,6 @@ use Rattle.elementary.specs.Fraction.{Frac, plusQ, timesQ, hornerQ, LeQ,
 use Rattle.elementary.proofs.Truncation.{leQ-trans, leQ-refl, horner-mono, horner-pos, Pos}
 use Rattle.elementary.specs.Power.{E, coef, coefs, series}
 use Rattle.elementary.proofs.Series.{series-is, series-pos, series-least, series-most, series-zero, series-mono, all-pos}
-use Rattle.elementary.specs.Near.{small}
 
 -- the denominator does not turn on the numerator of the argument
 pub same-bot : (x y c : ℕ) (q : Frac) (qs : List Frac) → hornerQ (over x c) q qs .bot ≡ hornerQ (over y c) q qs .bot

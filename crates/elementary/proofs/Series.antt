@@ -13,7 +13,8 @@ use lib.Ieee.Positive.{num, den, den-pos}
 use Rattle.elementary.specs.Fraction.{Within, LeQ, oneQ, Frac, plusQ, timesQ, hornerQ}
 use Rattle.elementary.proofs.Ratio.{within-trans}
 use Rattle.exact.specs.Value.{plus}
-use Rattle.elementary.specs.Near.{Near, errors, upper, lower, rest}
+use Rattle.elementary.specs.Near.{Near}
+use Rattle.elementary.proofs.Errors.{errors, upper, lower, rest}
 use Rattle.elementary.proofs.Truncation.{leQ-trans, horner-mono, horner-pos, Pos, cut-within, least-one}
 use Rattle.elementary.specs.Kernel.{hornerF, one, floats, kernel}
 use Rattle.elementary.proofs.Horner.{Coef, Coefs, Arg, Val, horner-near, AtLeast, AtMost}

@@ -13,7 +13,8 @@ use lib.Ieee.Positive.{num, den, den-pos}
 use Rattle.elementary.specs.Fraction.{Le, Within, over}
 use Rattle.elementary.proofs.Ratio.{within-trans, within-sym}
 use Rattle.exact.specs.Value.{plus}
-use Rattle.elementary.specs.Near.{Near, upper, lower, big, small}
+use Rattle.elementary.specs.Near.{Near}
+use Rattle.elementary.proofs.Errors.{upper, lower, big, small}
 use Rattle.elementary.specs.Power.{series, E, ceil}
 use Rattle.elementary.proofs.Series.{series-pos}
 use Rattle.elementary.specs.Kernel.{kernel}

@@ -12,7 +12,8 @@ use lib.Ieee.{Float, binary64, ofBits, mul, round}
 use lib.Ieee.Positive.{num, den, den-pos}
 use Rattle.elementary.specs.Fraction.{Within, Frac, plusQ, timesQ, hornerQ, LeQ, oneQ, over}
 use Rattle.exact.specs.Value.{plus}
-use Rattle.elementary.specs.Near.{Near, errors, upper, lower}
+use Rattle.elementary.specs.Near.{Near}
+use Rattle.elementary.proofs.Errors.{errors, upper, lower}
 use Rattle.elementary.proofs.Operations.{Range, mul-is, round-within}
 use Rattle.elementary.specs.Kernel.{hornerF, one}
 use Rattle.elementary.proofs.Horner.{Close, Arg, Val, Coef, Coefs, horner-near, half, fine, AtLeast, AtMost, range-of, mul-close, mul-most, within-atleast}

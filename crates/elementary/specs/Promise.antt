@@ -1,7 +1,9 @@
--- What 01 demands of the float functions. Definitions only.
+-- What 01, "The seven float functions", demands of exp2, powf (base 10) and exp, each sentence beside its clause. Definitions only.
+-- The rules leave a result from 2 ^ -126 to 2 ^ 127 open within one part in 4,194,304 of the exact figure: there alone the promise limits
+-- the result, and everywhere else it says what the result is.
 use mathlib.Core.Path.{_≡_}
 use mathlib.Core.Bool.{Bool, true, false, cond}
-use Prim.Native.Nat.{ℕ, _*_, _^_, _≤_, _<_}
+use Prim.Native.Nat.{ℕ, _+_, _-_, _*_, _^_, _≤_, _<_}
 use lib.Dec.{T}
 use lib.IntN.{pos}
 use lib.Ieee.{Float, nan, inf, fin, up, down}
@@ -10,25 +12,30 @@ use Rattle.exact.specs.Value.{plus}
 use Rattle.elementary.specs.Fraction.{Frac}
 use Rattle.elementary.specs.Power.{E}
 
--- r is within one part in 4194304 of q
+-- "one part in 4,194,304"
+abbrev pub parts : ℕ
+parts = 4194304
+
+-- r "within one part" of q: r is finite and not negative, r ≤ q + q / parts and r ≥ q - q / parts
 pub record Part (q : Frac) (r : Float) : Type 0 where
   pub sign : T (plus r)
-  pub most : num r * q .bot * 4194304 ≤ q .top * den r * 4194305
-  pub least : q .top * den r * 4194303 ≤ num r * q .bot * 4194304
+  pub most : num r * q .bot * parts ≤ q .top * den r * (parts + 1)
+  pub least : q .top * den r * (parts - 1) ≤ num r * q .bot * parts
 
-pub record Small (t : ℕ) (y : Float) : Type 0 where
-  pub sign : T (plus y)
-  pub digits : den y ≤ 2 ^ 250
-  pub most : num y ≤ t * den y
+-- r is a result for the exact figure q
+pub record Answers (q : Frac) (r : Float) : Type 0 where
+  -- "Where the exact figure is below 2^-126 they give 0"
+  pub under : q .top * 2 ^ 126 < q .bot → r ≡ fin false 0 (pos 0)
+  -- "where it is above 2^127 plus infinity"
+  pub over : q .bot * 2 ^ 127 < q .top → r ≡ inf false
+  -- "Results between 2^-126 and 2^127 .. lie within one part in 4,194,304 of" the figure, the two ends among them
+  pub between : q .bot ≤ q .top * 2 ^ 126 → q .top ≤ q .bot * 2 ^ 127 → Part q r
 
-abbrev pub Exp2 : Float → Float → Type 0
-Exp2 nan r = r ≡ nan
-Exp2 (inf s) r = r ≡ cond s (fin false 0 (pos 0)) (inf false)
-Exp2 (fin false m e) r = (127 * down e < m * up e → r ≡ inf false) × (m * up e ≤ 127 * down e → Part (E false (m * up e) (down e)) r)
-Exp2 (fin true m e) r = (126 * down e < m * up e → r ≡ fin false 0 (pos 0)) × (m * up e ≤ 126 * down e → Part (E true (m * up e) (down e)) r)
-
+-- r is a result for E(x × a / c)
 abbrev pub PowerOf : ℕ → ℕ → Float → Float → Type 0
+-- "All seven turn not-a-number into itself."
 PowerOf a c nan r = r ≡ nan
+-- "minus and plus infinity give the same two": 0 and plus infinity
 PowerOf a c (inf s) r = r ≡ cond s (fin false 0 (pos 0)) (inf false)
-PowerOf a c (fin false m e) r = (127 * (down e * c) < m * up e * a → r ≡ inf false) × (m * up e * a ≤ 127 * (down e * c) → Part (E false (m * up e * a) (down e * c)) r)
-PowerOf a c (fin true m e) r = (126 * (down e * c) < m * up e * a → r ≡ fin false 0 (pos 0)) × (m * up e * a ≤ 126 * (down e * c) → Part (E true (m * up e * a) (down e * c)) r)
+-- m * up e / down e is the size of x, and s says whether x is negative
+PowerOf a c (fin s m e) r = Answers (E s (m * up e * a) (down e * c)) r

@@ -1,99 +1,17 @@
-use Prim.Native.Nat.{_*_}
-use mathlib.Core.Path.{_≡_, sym, subst, refl, _∙_}
-use borrow.Author.Needs.{needs}
-use lib.Dec.{T, lit≤, lit<}
-use lib.Ieee.{Float, fits, binary32, binary64, ofBits, neg, div, isNan}
-use lib.Ieee.Fits.{fits-widens, and-i}
-use lib.Ieee.Positive.{num, den}
-use mathlib.Core.Bool.{not, true, false}
-use Rattle.elementary.specs.Power.{E}
-use Rattle.elementary.specs.Promise.{Part}
-use Rattle.exact.proofs.Narrowing.{no-nan}
-use Rattle.elementary.proofs.ExpFn.{at-nan, below-range, above-range, fall-tiny, rise-tiny, fall-done, rise-done, zero-done, ten-ends, ten-factor, product-small, up-part, down-part}
+use mathlib.Core.Path.{sym, subst}
+use lib.Dec.{T, lit≤}
+use lib.Ieee.{binary32, binary64, ofBits, neg}
+use Rattle.elementary.proofs.ExpFn.{power-base}
 use Rattle.elementary.proofs.power.pow10.Statement.{statement}
 use Rattle.elementary.proofs.power.pow10.Tie as tie
 
-held : (c : tie.Start) → T (fits binary32 (c .args .x))
-held c = subst T (sym (c .good .0 .1)) tt
+power-by-requires : tie.Need-power-by-requires
+unfolding ofBits neg
+power-by-requires c κs = record { sign = tt; from = lit≤ tt; to = lit≤ tt; negative = tt; bottom = lit≤ tt; positive = tt; top = lit≤ tt }
 
 returns : tie.Need-returns
-returns c = at-nan 3321928094887362348 1000000000000000000 (c .before .args .x) (c .if1 .taken)
-
-returns-2 : tie.Need-returns-2
 unfolding ofBits neg
-returns-2 c = below-range 1242883 14 10021977 17 18 9943064 10021977 3321928094887362348 1000000000000000000 ten-ends (c .before .before .args .x) (held (c .before .before)) (subst T (sym (c .if2 .taken)) tt)
-
-returns-3 : tie.Need-returns-3
-unfolding ofBits div
-returns-3 c = above-range 1242883 14 10021977 17 18 9943064 10021977 3321928094887362348 1000000000000000000 ten-ends (c .before .before .before .args .x) (held (c .before .before .before)) (subst T (sym (c .if3 .taken)) tt)
-
-float-to-float-y : tie.Need-float-to-float-y
-float-to-float-y c =
-    let s = c .before .before .before .before in
-    and-i (fits binary64 (s .args .x)) (not (isNan (s .args .x))) (fits-widens (s .args .x) (held s)) (no-nan (s .args .x) (c .before .before .before .if1 .left))
-
-sink-requires : tie.Need-sink-requires
-unfolding ofBits neg
-sink-requires c κs =
-    let s = c .before .before .before .before .before in
-    product-small (ofBits binary64 0x400a934f0979a371) (neg (s .args .x)) 3321928094887362348 1000000000000000000 126 ten-factor (fall-tiny 1242883 14 10021977 17 18 9943064 10021977 3321928094887362348 1000000000000000000 ten-ends (s .args .x) (held s) (c .before .before .before .if2 .left) (subst T (sym (c .if4 .taken)) tt)) (lit≤ tt)
-
-narrow-requires : tie.Need-narrow-requires
-narrow-requires c κs = search needs
-
-returns-4 : tie.Need-returns-4
-unfolding ofBits neg
-returns-4 c =
-    let k = c .before in
-    let s = k .before .before .before .before .before .before in
-    let x = s .args .x in
-    let i2 = k .before .before .before .before .if2 .left in
-    let i4 = subst T (sym (k .before .if4 .taken)) tt in
-    let t = fall-tiny 1242883 14 10021977 17 18 9943064 10021977 3321928094887362348 1000000000000000000 ten-ends x (held s) i2 i4 in
-    fall-done 1242883 14 10021977 17 18 9943064 10021977 3321928094887362348 1000000000000000000 ten-ends x (c .narrow .result) (held s) i2 i4
-    (subst (λ (r : Float). Part (E true (num (neg x) * 3321928094887362348) (den (neg x) * 1000000000000000000)) r) (sym (c .narrow .ensures))
-    (down-part (ofBits binary64 0x400a934f0979a371) (neg x) (k .sink .result) 3321928094887362348 1000000000000000000 ten-factor t (k .sink .ensures)))
-
-climb-requires : tie.Need-climb-requires
-unfolding ofBits
-climb-requires c κs =
-    let s = c .before .before .before .before .before .before in
-    product-small (ofBits binary64 0x400a934f0979a371) (s .args .x) 3321928094887362348 1000000000000000000 127 ten-factor (rise-tiny 1242883 14 10021977 17 18 9943064 10021977 3321928094887362348 1000000000000000000 ten-ends (s .args .x) (held s) (c .before .before .before .if3 .left) (subst T (sym (c .if5 .taken)) tt)) (lit≤ tt)
-
-narrow-requires-2 : tie.Need-narrow-requires-2
-narrow-requires-2 c κs = search needs
-
-returns-5 : tie.Need-returns-5
-unfolding ofBits
-returns-5 c =
-    let k = c .before in
-    let s = k .before .before .before .before .before .before .before in
-    let x = s .args .x in
-    let i3 = k .before .before .before .before .if3 .left in
-    let i5 = subst T (sym (k .before .if5 .taken)) tt in
-    let t = rise-tiny 1242883 14 10021977 17 18 9943064 10021977 3321928094887362348 1000000000000000000 ten-ends x (held s) i3 i5 in
-    rise-done 1242883 14 10021977 17 18 9943064 10021977 3321928094887362348 1000000000000000000 ten-ends x (c .narrow2 .result) (held s) i3 i5
-    (subst (λ (r : Float). Part (E false (num x * 3321928094887362348) (den x * 1000000000000000000)) r) (sym (c .narrow2 .ensures))
-    (up-part (ofBits binary64 0x400a934f0979a371) x (k .climb .result) 3321928094887362348 1000000000000000000 ten-factor t (k .climb .ensures)))
-
-returns-6 : tie.Need-returns-6
-unfolding ofBits neg
-returns-6 c =
-    let s = c .before .before .before .before .before .before in
-    zero-done 1242883 14 10021977 17 18 9943064 10021977 3321928094887362348 1000000000000000000 ten-ends (s .args .x) (lit< tt) (no-nan (s .args .x) (c .before .before .before .before .before .if1 .left)) (c .before .before .before .before .if2 .left) (c .before .before .before .if3 .left) (c .before .if4 .left) (c .if5 .left)
+returns c = rw (c .power-by .ensures) (power-base 3321928094887362348 1000000000000000000 18 18 (ofBits binary64 0x400a934f0979a371) (neg (ofBits binary32 0x4217b818)) (ofBits binary32 0x4218ec59) (c .before .args .x) tt (subst T (sym (c .before .good .0 .1)) tt))
 
 pub pow10-spec : {M : Type 1} → statement M
-pow10-spec =
-    tie.close
-    (tie.spec
-    returns
-    returns-2
-    returns-3
-    float-to-float-y
-    sink-requires
-    narrow-requires
-    returns-4
-    climb-requires
-    narrow-requires-2
-    returns-5
-    returns-6)
+pow10-spec = tie.close (tie.spec power-by-requires returns)

@@ -1,15 +1,13 @@
-use mathlib.Core.Path.{_≡_, sym, subst, ap₂, _∙_}
+use mathlib.Core.Path.{_≡_}
+use Prim.Native.Nat.{_≤_}
 use native.Mathlib.Omega.{arith}
 use native.Mathlib.Nat.{le-trans}
 use borrow.Author.Needs.{needs}
-use mathlib.Core.Bool.{false}
 use lib.Dec.{lit≤}
-use lib.Ieee.{Float, mul, binary64}
-use Rattle.elementary.specs.Near.{NearE}
-use Rattle.elementary.proofs.ExpFn.{climb-near}
-use Rattle.elementary.proofs.Exp2.{trunc-requires, trunc-most, whole-float}
-use Rattle.elementary.proofs.power.climb.Statement.{statement}
-use Rattle.elementary.proofs.power.climb.Tie as tie
+use Rattle.elementary.specs.Kernel.{powerUp}
+use Rattle.elementary.proofs.Whole.{trunc-requires, trunc-most, whole-float}
+use Rattle.elementary.proofs.power.power_up.Statement.{statement}
+use Rattle.elementary.proofs.power.power_up.Tie as tie
 
 truncating-f64-to-u64-requires : tie.Need-truncating-f64-to-u64-requires
 truncating-f64-to-u64-requires c κs = trunc-requires 128 (c .args .y) (lit≤ tt) (c .pre)
@@ -33,14 +31,11 @@ scale-requires c κs =
     omega (arith, trunc-most 128 (s .truncating-f64-to-u64 .result) (s .before .args .y) (lit≤ tt) (s .before .pre) (s .truncating-f64-to-u64 .ensures))
 
 returns : tie.Need-returns
-returns c =
-    let s = c .before .before .before in
-    let y = s .before .args .y in
-    subst (λ (r : Float). NearE false y r) (sym (ap₂ (λ (a b : Float). mul binary64 a b) (c .before .series .ensures) (c .scale .ensures)))
-    (climb-near y (s .truncating-f64-to-u64 .result) (s .before .pre) (s .truncating-f64-to-u64 .ensures))
+unfolding powerUp
+returns c = rw (c .before .series .ensures, c .scale .ensures, c .before .before .before .truncating-f64-to-u64 .ensures)
 
-pub climb-spec : {M : Type 1} → statement M
-climb-spec =
+pub power-up-spec : {M : Type 1} → statement M
+power-up-spec =
     tie.close
     (tie.spec
     truncating-f64-to-u64-requires
