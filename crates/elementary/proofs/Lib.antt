@@ -9,6 +9,8 @@ pub mod Exp2
 pub mod Lipschitz
 pub mod Root
 pub mod Mean
+pub mod Offset
+pub mod Log2
 pub mod Near
 pub mod Difference
 pub mod Digits

@@ -13,7 +13,7 @@ ghost use Rattle.elementary.specs.Promise.{Part, Small, Exp2, PowerOf};
 use exact::format::narrow;
 
 // The series of 2^r through the 12th power.
-fn series(r: f64) -> f64
+pub fn series(r: f64) -> f64
     ensures { λ v. ⌜ v ≡ kernel r ⌝ }
 {
     1.0
