@@ -21,8 +21,8 @@ use Rattle.elementary.specs.Kernel.{kernel}
 use Rattle.elementary.specs.Logarithm.{unit, seriesAt, Mantissa, Solves}
 use Rattle.elementary.proofs.Ratio.{le-trans-ratio, le-weaken, within-weaken}
 use Rattle.elementary.proofs.Operations.{Range, mul-is, mul-near}
-use Rattle.elementary.proofs.Horner.{Arg, AtLeast, half, fine, range-of}
-use Rattle.elementary.proofs.Series.{kernel-near, series-pos, series-zero}
+use Rattle.elementary.proofs.Horner.{Arg, half, fine, range-of, within-atmost, within-atleast}
+use Rattle.elementary.proofs.Series.{kernel-near, series-pos, series-least, series-most, series-zero}
 use Rattle.elementary.proofs.Lipschitz.{series-bot}
 use Rattle.elementary.proofs.Mean.{series-mean, at-whole}
 use Rattle.elementary.proofs.Offset.{within-equal}
@@ -162,3 +162,41 @@ bracket-solves m k w b h = record {
         (le-trans-ratio 274877906945 274877906944 10000007 10000000 (num m) (den m) (seriesAt (k + w) .top) (seriesAt (k + w) .bot) (seriesAt k .top) (seriesAt k .bot) (series-pos (over (k + w) unit) (lit< tt)) (b .high-end) (jump k w h)),
   );
 }
+
+-- ---- the test of a guess: y is not above x times 1 + 2 ^ -26, rounded
+abbrev factor : Float
+factor = ofBits binary64 0x3ff0000004000000
+
+raised : (x y : Float) → T (plus x) → T (plus y) → den x ≤ num x * 2 → num x ≤ den x * 4 → lt (mul binary64 x factor) y ≡ false → Le (upper * 67108865) (lower * 67108864) (num y) (den y) (num x) (den x)
+unfolding ofBits
+raised x y p q l h t =
+    let z = mul binary64 x factor in
+    let R : Range binary64 half (num x * 67108865) (den x * 67108864) = range-of (num x * 67108865) (den x * 67108864) 1 3 (inr (omega arith)) (omega arith) (lit≤ tt) (lit≤ tt) in
+    let n = mul-near binary64 half lower 1 1 1 1 x factor (num x) (den x) 67108865 67108864 fine (own x p) (own factor tt) R in
+    regroup upper lower 67108865 67108864 (num y) (den y) (num x) (den x)
+    (le-trans-ratio 1 1 upper lower (num y) (den y) (num z) (den z) (num x * 67108865) (den x * 67108864) (den-pos z) (not-below z y (n .sign) q t) (n .within .0))
+  where
+    own : (x : Float) → T (plus x) → Near 1 1 x (num x) (den x)
+    own x p = record { sign = p; within = within-equal (num x) (den x) (num x) (den x) refl }
+
+    regroup : (u v p q a b c d : ℕ) → a * (d * q) * v ≤ c * p * b * u → a * d * (v * q) ≤ c * b * (u * p)
+    regroup u v p q a b c d h = omega arith
+
+pub test-solves : (m v : Float) (k : ℕ) → Mantissa m → k < unit → Near 274877906945 274877906944 v (seriesAt k .top) (seriesAt k .bot)
+    → lt (mul binary64 m factor) v ≡ false → lt (mul binary64 v factor) m ≡ false → Solves m k
+test-solves m v k M K n h l =
+    let S = seriesAt k in
+    let P : 0 < S .bot = series-pos (over k unit) (lit< tt) in
+    let a = raised m v (M .sign) (n .sign) (omega (arith, M .least)) (omega (arith, M .most)) h in
+    let low-end : den v ≤ num v * 2 = within-atleast 274877906944 (num v) (den v) (S .top) (S .bot) 1 (lit< tt) P (n .within) (omega (arith, series-least (over k unit))) in
+    let high-end : num v ≤ den v * 4 = within-atmost 274877906944 (num v) (den v) (S .top) (S .bot) 2 (lit< tt) P (n .within) (omega (arith, series-most (over k unit) (le-of-lt K))) in
+    let b = raised v m (n .sign) (M .sign) low-end high-end l in
+    record {
+      room = K;
+      near = (
+        le-weaken (274877906945 * (upper * 67108865)) (274877906944 * (lower * 67108864)) 1048577 1048576 (S .top) (S .bot) (num m) (den m) (lit< tt) (lit≤ tt)
+            (le-trans-ratio 274877906945 274877906944 (upper * 67108865) (lower * 67108864) (S .top) (S .bot) (num v) (den v) (num m) (den m) (den-pos v) (n .within .1) a),
+        le-weaken (upper * 67108865 * 274877906945) (lower * 67108864 * 274877906944) 1048577 1048576 (num m) (den m) (S .top) (S .bot) (lit< tt) (lit≤ tt)
+            (le-trans-ratio (upper * 67108865) (lower * 67108864) 274877906945 274877906944 (num m) (den m) (num v) (den v) (S .top) (S .bot) (den-pos v) b (n .within .0)),
+      );
+    }

@@ -26,7 +26,43 @@ fn power_at(k: u64) -> f64
     series(fixed(k))
 }
 
-// log2 of m in units of 2^-45, by halving.
+// y - 128 in units of 2^-45, for a y from 128 to below 129, whose last digit is one unit; 0 for any other.
+fn units_past_128(y: f64) -> u64
+    ensures { λ k. ⌜ k < unit ⌝ }
+{
+    if y != y {
+        return 0;
+    }
+    let bits: u64 = f64::to_bits(y);
+    if bits < 4638707616191610880 {
+        return 0;
+    }
+    let k = bits - 4638707616191610880;
+    if k < 35184372088832 { k } else { 0 }
+}
+
+// About log2 of an m from 1 to 2, in units of 2^-45: the series of log2 m in (m - 1) / (m + 1) through the 13th power, and from the
+// square root of 2 on that of log2 (m / 2) in (m - 2) / (m + 2). Only the range is promised: `fraction` tests the value.
+fn guess(m: f64) -> u64
+    ensures { λ k. ⌜ k < unit ⌝ }
+{
+    let one = if m < 1.4142135623730951 { 1.0 } else { 2.0 };
+    let s = (m - one) / (m + one);
+    let z = s * s;
+    let sum = 2.8853900817779268
+        + z
+            * (0.9617966939259756
+                + z
+                    * (0.5770780163555853
+                        + z
+                            * (0.4121985831111324
+                                + z
+                                    * (0.3205988979753252
+                                        + z * (0.2623081892525388 + z * 0.22195308321368667)))));
+    units_past_128(s * sum + (one + 127.0))
+}
+
+// log2 of m in units of 2^-45, by halving: for an m whose guess fails the test.
 fn root(m: f64) -> u64
     requires { ⌜ Mantissa m ⌝ }
     ensures { λ k. ⌜ Solves m k ⌝ }
@@ -42,6 +78,22 @@ fn root(m: f64) -> u64
             k = n;
             w = w - half;
         }
+    }
+    k
+}
+
+// log2 of m in units of 2^-45: the guess, where the series there is within one part in 2^26 of m.
+fn fraction(m: f64) -> u64
+    requires { ⌜ Mantissa m ⌝ }
+    ensures { λ k. ⌜ Solves m k ⌝ }
+{
+    let k = guess(m);
+    let v = power_at(k);
+    if m * 1.0000000149011612 < v {
+        return root(m);
+    }
+    if v * 1.0000000149011612 < m {
+        return root(m);
     }
     k
 }
@@ -65,7 +117,7 @@ fn positive(x: f64) -> f32
 {
     let bits: u64 = f64::to_bits(x);
     let m = f64::from_bits(4607182418800017408 + bits % 4503599627370496);
-    nearest_sum(bits / 4503599627370496, root(m))
+    nearest_sum(bits / 4503599627370496, fraction(m))
 }
 
 // log2 x.

@@ -22,14 +22,14 @@ add-m c = search needs
 float-from-bits-m : tie.Need-float-from-bits-m
 float-from-bits-m c = mantissa-no-nan (toBits binary64 (c .args .x) % 4503599627370496) (mod-lt (toBits binary64 (c .args .x)) (lit< tt))
 
-root-requires : tie.Need-root-requires
-root-requires c κs = mantissa (toBits binary64 (c .args .x) % 4503599627370496) (mod-lt (toBits binary64 (c .args .x)) (lit< tt))
+fraction-requires : tie.Need-fraction-requires
+fraction-requires c κs = mantissa (toBits binary64 (c .args .x) % 4503599627370496) (mod-lt (toBits binary64 (c .args .x)) (lit< tt))
 
 nearest-sum-requires : tie.Need-nearest-sum-requires
 nearest-sum-requires c κs =
     let s = c .before in
     let p = parts (s .args .x) (held s) (s .pre) in
-    (p .low-end, (p .high-end, c .root .ensures .room))
+    (p .low-end, (p .high-end, c .fraction .ensures .room))
 
 returns : tie.Need-returns
 returns c =
@@ -38,7 +38,7 @@ returns c =
     let b = toBits binary64 x in
     let p = parts x (held s) (s .pre) in
     subst (λ (r : Float). Inverts (num x) (den x) r) (sym (c .nearest-sum .ensures))
-    (inverts x (ofBits binary64 (4607182418800017408 + b % 4503599627370496)) (digitsOf b) (b / 4503599627370496) (c .before .root .result) (p .low-end) (p .high-end) (mantissa-value (b % 4503599627370496) (mod-lt b (lit< tt))) (p .value) (c .before .root .ensures))
+    (inverts x (ofBits binary64 (4607182418800017408 + b % 4503599627370496)) (digitsOf b) (b / 4503599627370496) (c .before .fraction .result) (p .low-end) (p .high-end) (mantissa-value (b % 4503599627370496) (mod-lt b (lit< tt))) (p .value) (c .before .fraction .ensures))
 
 pub positive-spec : {M : Type 1} → statement M
 positive-spec =
@@ -47,6 +47,6 @@ positive-spec =
     float-to-bits-bits
     add-m
     float-from-bits-m
-    root-requires
+    fraction-requires
     nearest-sum-requires
     returns)
