@@ -11,6 +11,8 @@ pub mod Lipschitz
 pub mod Line
 pub mod Root
 pub mod Mean
+pub mod Offset
+pub mod Log2
 pub mod Near
 pub mod Difference
 pub mod Digits

@@ -1,16 +1,21 @@
--- The series grows no faster than ln 2 times itself: S(y) - S(x) ≤ (y - x) * ln 2 * S(y). Assumes nothing.
+-- The series, and E, grow no faster than ln 2 times themselves: S(y) - S(x) ≤ (y - x) * ln 2 * S(y). Assumes nothing.
 use mathlib.Core.Path.{_≡_, refl, sym, ap, ap₂, _∙_, subst, subst₂}
 use mathlib.Core.List.{List, [], _∷_, _++_}
 use Prim.Native.Nat.{ℕ, zero, suc, _+_, _-_, _*_, _/_, _%_, _^_, _≤_, _<_}
-use native.Mathlib.Nat.{le-refl, le-trans, le-of-eq, mul-pos, mul-comm, mul-assoc, mul-left-comm, mul-right-comm, mul-le-mul-right, mul-le-mul-left, mul-le-mul, le-of-mul-le-mul-right, mul-one, one-mul, add-comm}
+use native.Mathlib.Nat.{le-refl, le-trans, le-of-eq, mul-pos, mul-comm, mul-assoc, mul-left-comm, mul-right-comm, mul-le-mul-right, mul-le-mul-left, mul-le-mul, le-of-mul-le-mul-right, mul-one, one-mul, add-comm, le-of-lt, mod-lt, div-add-mod', pow-suc, eq-or-lt-of-le}
 use native.Mathlib.Omega.{arith}
 use mathlib.Core.Bool.{Bool, true, false, not, _&&_}
 use lib.Dec.{T, leb, ltb, leb→le, lit≤, lit<}
 use lib.Ieee.Fits.{and-l, and-r}
-use Rattle.elementary.specs.Fraction.{Frac, plusQ, timesQ, hornerQ, oneQ, over}
-use Rattle.elementary.specs.Power.{coef, coefs, series}
-use Rattle.elementary.proofs.Series.{series-is}
-use Rattle.elementary.proofs.Lipschitz.{same-bot, all-coefs}
+use mathlib.Core.Logic.{_⊎_, inl, inr}
+use lib.Arith.{digits-div, digits-mod}
+use lib.Pow.{pow-pos, pow-mono}
+use Rattle.elementary.specs.Fraction.{Frac, plusQ, timesQ, hornerQ, oneQ, over, LeQ, Le}
+use Rattle.elementary.specs.Power.{coef, coefs, series, E}
+use Rattle.elementary.proofs.Ratio.{le-weaken}
+use Rattle.elementary.proofs.Truncation.{leQ-trans}
+use Rattle.elementary.proofs.Series.{series-is, series-pos, series-least, series-most, series-zero, series-mono}
+use Rattle.elementary.proofs.Lipschitz.{same-bot, all-coefs, series-bot, lt-or-ge}
 use Rattle.elementary.specs.Kernel.{one}
 
 -- the derivative's numerator, over the same denominator
@@ -118,3 +123,139 @@ series-mean x y c e C h =
   where
     one : (a b : ℕ) → 1 * a + b ≡ 1 * (a + b)
     one a b = omega arith
+
+-- ---- E, where the argument grows by e / c at most, e up to c: with w / D = 1 - ln 2 * e / c, E at the larger is at most D / w times E at the smaller, but for one part in 2 ^ 40
+-- nearly 2 at 1
+near-two : LeQ (over 1099511627775 549755813888) (series oneQ)
+unfolding series
+near-two = lit≤ tt
+
+pub at-whole : (c : ℕ) → 1099511627775 * series (over c c) .bot ≤ series (over c c) .top * 549755813888
+at-whole c = leQ-trans (over 1099511627775 549755813888) (series oneQ) (series (over c c)) (series-pos oneQ (lit< tt)) near-two (series-mono oneQ (over c c) (omega arith))
+
+-- across a whole number: the way p up to it and the way q from it
+cross-step : (A B G W D w₁ w₂ w p q : ℕ) → 0 < D → w₁ + p ≡ D → w₂ + q ≡ D → w + (p + q) ≤ D → A * w₁ ≤ B * D → W * w₂ ≤ G * D → 1099511627775 * B ≤ W * 549755813888
+    → A * 2 * (w * 1099511627775) ≤ G * (D * 1099511627776)
+cross-step A B G W D w₁ w₂ w p q P e f h a b k =
+    let i : w + p ≤ w₂ = omega arith in
+    let j : w ≤ w₁ = omega arith in
+    let g : D * w ≡ (w₁ + p) * w = ap (λ (z : ℕ). z * w) (sym e) in
+    let l : D * w ≤ w₁ * w₂ = omega (arith, mul-le-mul-left w₁ i, mul-le-mul-left p j) in
+    let s : A * 1099511627775 * (D * w) ≤ A * 1099511627775 * (w₁ * w₂) = mul-le-mul-left (A * 1099511627775) l in
+    let t : A * w₁ * (w₂ * 1099511627775) ≤ B * D * (w₂ * 1099511627775) = mul-le-mul-right (w₂ * 1099511627775) a in
+    let u : 1099511627775 * B * (D * w₂) ≤ W * 549755813888 * (D * w₂) = mul-le-mul-right (D * w₂) k in
+    let v : W * w₂ * (549755813888 * D) ≤ G * D * (549755813888 * D) = mul-le-mul-right (549755813888 * D) b in
+    let z : A * 2 * (w * 1099511627775) * D ≤ G * (D * 1099511627776) * D = omega arith in
+    le-of-mul-le-mul-right z P
+
+abbrev whole : ℕ → ℕ
+whole c = 1000000000000000000 * c
+
+way-most : (x c : ℕ) → x ≤ c → x * 693147180559945309 ≤ whole c
+way-most x c h = omega arith
+
+module _ (c e w : ℕ) (C : 0 < c) (small : e ≤ c) (left : w + e * 693147180559945309 ≡ 1000000000000000000 * c) where
+  abbrev S : ℕ → ℕ
+  S x = series (over x c) .top
+
+  abbrev B : ℕ
+  B = series (over 0 c) .bot
+
+  abbrev D : ℕ
+  D = whole c
+
+  D-pos : 0 < D
+  D-pos = omega arith
+
+  grow : (x y d v : ℕ) → y ≤ x + d → v + d * 693147180559945309 ≡ D → S y * v ≤ S x * D
+  grow x y d v h k =
+      let m = series-mean x (x + d) c d C refl in
+      let n : S y * B ≤ S (x + d) * B = subst₂ (λ (p q : ℕ). S y * p ≤ S (x + d) * q) (series-bot (x + d) 0 c) (series-bot y 0 c) (series-mono (over y c) (over (x + d) c) (mul-le-mul-right c h)) in
+      let o : S y ≤ S (x + d) = le-of-mul-le-mul-right n (series-pos (over 0 c) C) in
+      let t : S (x + d) * (v + d * 693147180559945309) ≡ S (x + d) * D = ap (λ (z : ℕ). S (x + d) * z) k in
+      let g : S (x + d) * v ≤ S x * D = cut (S (x + d)) (S x) v d 693147180559945309 D t m in
+      le-trans (mul-le-mul-right v o) g
+    where
+      cut : (a b v d n D : ℕ) → a * (v + d * n) ≡ a * D → a * D ≤ b * D + d * n * a → a * v ≤ b * D
+      cut a b v d n D h k = omega arith
+
+  least : (x : ℕ) → B ≤ S x
+  least x = subst (λ (b : ℕ). b ≤ S x) (series-bot x 0 c) (omega (arith, series-least (over x c)))
+
+  most : (x : ℕ) → x ≤ c → S x ≤ 2 * B
+  most x h = subst (λ (b : ℕ). S x ≤ 2 * b) (series-bot x 0 c) (omega (arith, series-most (over x c) h))
+
+  at-zero : S 0 ≤ B
+  at-zero = omega (arith, series-zero (over 0 c) refl)
+
+  at-one : 1099511627775 * B ≤ S c * 549755813888
+  at-one = subst (λ (b : ℕ). 1099511627775 * b ≤ S c * 549755813888) (series-bot c 0 c) (at-whole c)
+
+  next : (r s : ℕ) → r ≤ c → s ≤ c → s + c ≤ r + e → S s * 2 * (w * 1099511627775) ≤ S r * (D * 1099511627776)
+  next r s k l h =
+      let p = s * 693147180559945309 in
+      let q = (c - r) * 693147180559945309 in
+      let x : D - p + p ≡ D = back D p (way-most s c l) in
+      let y : D - q + q ≡ D = back D q (way-most (c - r) c (omega arith)) in
+      let z : s + (c - r) ≤ e = omega arith in
+      let o : w + (p + q) ≤ D = room w s (c - r) e 693147180559945309 D z left in
+      let a : S s * (D - p) ≤ B * D = le-trans (grow 0 s s (D - p) (omega arith) x) (mul-le-mul-right D at-zero) in
+      let b : S c * (D - q) ≤ S r * D = grow r c (c - r) (D - q) (omega arith) y in
+      cross-step (S s) B (S r) (S c) D (D - p) (D - q) w p q D-pos x y o a b at-one
+    where
+      back : (D p : ℕ) → p ≤ D → D - p + p ≡ D
+      back D p h = omega arith
+
+      room : (w s t e n D : ℕ) → s + t ≤ e → w + e * n ≡ D → w + (s * n + t * n) ≤ D
+      room w s t e n D h k = omega (arith, mul-le-mul-right n h)
+
+  same : (r s : ℕ) → s ≤ r + e → S s * (w * 1099511627775) ≤ S r * (D * 1099511627776)
+  same r s h = more (S s) (S r) w D (grow r s e w h left)
+    where
+      more : (a b w D : ℕ) → a * w ≤ b * D → a * (w * 1099511627775) ≤ b * (D * 1099511627776)
+      more a b w D h = omega arith
+
+  earlier : (r s m n : ℕ) → s ≤ c → suc m ≤ n → S s * 2 ^ m * (w * 1099511627775) ≤ S r * 2 ^ n * (D * 1099511627776)
+  earlier r s m n l h =
+      let p : 2 ^ m * 2 ≤ 2 ^ n = le-trans (le-of-eq (sym (pow-suc 2 m))) (pow-mono {i = suc m} {j = n} h) in
+      let q : S s * 2 ^ m ≤ S r * 2 ^ n = omega (arith, mul-le-mul-right (2 ^ m) (most s l), mul-le-mul-left B p, mul-le-mul-right (2 ^ n) (least r)) in
+      let o : w * 1099511627775 ≤ D * 1099511627776 = omega arith in
+      mul-le-mul q o
+
+  -- n * c + r and m * c + s: the floors n and m
+  floors : (n r m s : ℕ) → r < c → s < c → m * c + s ≤ n * c + r + e → S s * 2 ^ m * (w * 1099511627775) ≤ S r * 2 ^ n * (D * 1099511627776)
+  floors n r m s k l h = elim (lt-or-ge m n) [
+    | inl g ↦ earlier r s m n (le-of-lt l) g
+    | inr g ↦ elim (eq-or-lt-of-le g) [
+      | inl i ↦ equal (S s) (S r) m n (sym i) (same r s (level n r m s h (sym i)))
+      | inr i ↦ elim (eq-or-lt-of-le i) [
+        | inl j ↦ later (S s) (S r) m n (sym j) (next r s (le-of-lt k) (le-of-lt l) (up n r m s h (sym j)))
+        | inr j ↦ absurd (far n r m s k small h j)
+      ]
+    ]
+  ]
+    where
+      level : (n r m s : ℕ) → m * c + s ≤ n * c + r + e → m ≡ n → s ≤ r + e
+      level n r m s h i = omega (arith, ap (λ (x : ℕ). x * c) i)
+
+      up : (n r m s : ℕ) → m * c + s ≤ n * c + r + e → m ≡ suc n → s + c ≤ r + e
+      up n r m s h i = omega (arith, ap (λ (x : ℕ). x * c) i)
+
+      far : (n r m s : ℕ) → r < c → e ≤ c → m * c + s ≤ n * c + r + e → suc n < m → ⊥
+      far n r m s k l h j = omega (arith, mul-le-mul-right c j)
+
+      equal : (x y m n : ℕ) → m ≡ n → x * (w * 1099511627775) ≤ y * (D * 1099511627776) → x * 2 ^ m * (w * 1099511627775) ≤ y * 2 ^ n * (D * 1099511627776)
+      equal x y m n i h = subst (λ (z : ℕ). x * 2 ^ z * (w * 1099511627775) ≤ y * 2 ^ n * (D * 1099511627776)) (sym i) (omega (arith, mul-le-mul-right (2 ^ n) h))
+
+      later : (x y m n : ℕ) → m ≡ suc n → x * 2 * (w * 1099511627775) ≤ y * (D * 1099511627776) → x * 2 ^ m * (w * 1099511627775) ≤ y * 2 ^ n * (D * 1099511627776)
+      later x y m n i h = subst (λ (z : ℕ). x * z * (w * 1099511627775) ≤ y * 2 ^ n * (D * 1099511627776)) (sym (ap (λ (z : ℕ). 2 ^ z) i ∙ pow-suc 2 n)) (omega (arith, mul-le-mul-right (2 ^ n) h))
+
+  pub E-mean : (a b : ℕ) → b ≤ a + e → Le (D * 1099511627776) (w * 1099511627775) (E false b c .top) (E false b c .bot) (E false a c .top) (E false a c .bot)
+  unfolding E
+  E-mean a b h =
+      let f = floors (a / c) (a % c) (b / c) (b % c) (mod-lt a C) (mod-lt b C) (subst₂ (λ (x y : ℕ). x ≤ y + e) (sym (div-add-mod' b c)) (sym (div-add-mod' a c)) h) in
+      subst₂ (λ (x y : ℕ). S (b % c) * 2 ^ (b / c) * x * (w * 1099511627775) ≤ S (a % c) * 2 ^ (a / c) * y * (D * 1099511627776)) (series-bot 0 (a % c) c) (series-bot 0 (b % c) c)
+      (times (S (b % c) * 2 ^ (b / c)) (S (a % c) * 2 ^ (a / c)) B (w * 1099511627775) (D * 1099511627776) f)
+    where
+      times : (x y b v u : ℕ) → x * v ≤ y * u → x * b * v ≤ y * b * u
+      times x y b v u h = omega (arith, mul-le-mul-right b h)

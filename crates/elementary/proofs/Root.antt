@@ -1,42 +1,203 @@
--- The place of m among the series' values at k / 2 ^ 20. Assumes nothing.
-use mathlib.Core.Path.{_≡_, refl, sym, ap, _∙_, subst}
+-- The logarithm of a number from 1 to 2, in units of 2 ^ -45, by the series of 2 ^ t. Assumes nothing.
+use mathlib.Core.Path.{_≡_, refl, sym, ap, _∙_, subst, subst₂}
 use mathlib.Core.Logic.{_⊎_, inl, inr}
-use Prim.Native.Nat.{ℕ, zero, suc, _+_, _-_, _*_, _/_, _≤_, _<_}
-use native.Mathlib.Nat.{le-trans}
+use Prim.Native.Nat.{ℕ, zero, suc, _+_, _-_, _*_, _/_, _^_, _≤_, _<_}
+use native.Mathlib.Nat.{le-trans, le-of-eq, le-of-lt, lt-of-le-of-lt, mul-pos, mul-comm, mul-assoc, mul-right-comm, mul-le-mul, mul-le-mul-left, mul-le-mul-right, le-of-mul-le-mul-right, eq-zero-or-pos, mul-lt-mul-of-pos-right}
 use native.Mathlib.Omega.{arith}
-use mathlib.Core.Bool.{Bool, true, false}
+use mathlib.Core.Bool.{Bool, true, false, not}
 use lib.IntN.{pos}
-use lib.Dec.{T, le→leb, lit≤}
-use lib.Ieee.{Float, binary64, ofInt, ofBits, mul, le, inFloat}
+use lib.Dec.{T, ltb, ltb→lt, nltb→le, le→leb, lit≤, lit<}
+use lib.Pow.{pow-pos}
+use lib.Ieee.{Float, nan, inf, fin, binary64, round, ofInt, ofBits, mul, lt, inFloat}
+use lib.Ieee.Exact.{HasValue, round-exact}
+use lib.Ieee.Back.{round-whole}
+use lib.Ieee.Scale.{round-same}
+use lib.Ieee.Positive.{num, den, den-pos, value→cross}
+use Rattle.exact.specs.Value.{plus}
+use Rattle.exact.proofs.Value.{value-plus}
+use Rattle.elementary.specs.Fraction.{Frac, Le, Within, over}
+use Rattle.elementary.specs.Near.{Near}
+use Rattle.elementary.proofs.Errors.{upper, lower, errors, rest}
 use Rattle.elementary.specs.Kernel.{kernel}
+use Rattle.elementary.specs.Logarithm.{unit, seriesAt, Mantissa, Solves}
+use Rattle.elementary.proofs.Ratio.{le-trans-ratio, le-weaken, within-weaken}
+use Rattle.elementary.proofs.Operations.{Range, mul-is, mul-near}
+use Rattle.elementary.proofs.Horner.{Arg, half, fine, range-of, within-atmost, within-atleast}
+use Rattle.elementary.proofs.Series.{kernel-near, series-pos, series-least, series-most, series-zero}
+use Rattle.elementary.proofs.Lipschitz.{series-bot}
+use Rattle.elementary.proofs.Mean.{series-mean, at-whole}
+use Rattle.elementary.proofs.Offset.{within-equal}
 
-abbrev pub At : ℕ → Float
-At k = kernel (mul binary64 (ofInt binary64 (pos k)) (ofBits binary64 0x3eb0000000000000))
+-- ---- a / 2 ^ 45
+pub whole-float : (a : ℕ) → a ≤ 150 * unit → T (inFloat binary64 (pos a))
+unfolding inFloat
+whole-float a h = le→leb a (2 ^ 53) (le-trans h (lit≤ tt))
 
--- the series at k / 2 ^ 20 is at most m, and the next is above m
+whole-value : (a : ℕ) → a ≤ 150 * unit → HasValue (ofInt binary64 (pos a)) false a 1
+unfolding ofInt
+whole-value a h = round-whole binary64 false a (le-trans h (lit≤ tt))
+
+pub fixed-value : (a : ℕ) → a ≤ 150 * unit → HasValue (mul binary64 (ofInt binary64 (pos a)) (ofBits binary64 0x3d20000000000000)) false a unit
+unfolding ofBits
+fixed-value a h =
+    let x = ofInt binary64 (pos a) in
+    let v = whole-value a h in
+    let y = ofBits binary64 0x3d20000000000000 in
+    let e : num x * 1 * unit ≡ a * (den x * unit) = ap (λ (z : ℕ). z * unit) (value→cross x a 1 v) ∙ mul-assoc a (den x) unit in
+    subst (λ (z : Float). HasValue z false a unit) (sym (mul-is binary64 x y (value-plus x a 1 v) tt ∙ round-same binary64 false (num x * 1) (den x * unit) a unit (mul-pos (den-pos x) (lit< tt)) (lit< tt) e))
+    (round-exact binary64 false a unit a 1029 (lit< tt) (lt-of-le-of-lt h (lit< tt)) (lt-of-le-of-lt (mul-le-mul-right (2 ^ 1029) h) (lit< tt)) (sym (mul-assoc a (2 ^ 1029) unit)))
+
+-- ---- the series there
+least-of : (n d k : ℕ) → n * unit ≡ k * d → (n ≡ 0) ⊎ (d ≤ n * 2 ^ 300)
+least-of n d k e = elim (eq-zero-or-pos k) [
+  | inl z ↦ inl (none n (e ∙ ap (λ (x : ℕ). x * d) z))
+  | inr p ↦ inr (le-trans (some n d k e p) (mul-le-mul-left n (lit≤ {m = unit} {n = 2 ^ 300} tt)))
+]
+  where
+    none : (n : ℕ) → n * unit ≡ 0 * d → n ≡ 0
+    none n h = omega arith
+
+    some : (n d k : ℕ) → n * unit ≡ k * d → 0 < k → d ≤ n * unit
+    some n d k e p = omega (arith, mul-le-mul-right d p)
+
+most-of : (n d k : ℕ) → n * unit ≡ k * d → k ≤ unit → n ≤ d * 128
+most-of n d k e h = omega (arith, mul-le-mul-right d h)
+
+fixed-arg : (t : Float) (k : ℕ) → k ≤ unit → HasValue t false k unit → Arg 0 t (over k unit)
+fixed-arg t k h v =
+    let e = value→cross t k unit v in
+    record {
+      close = record { sign = value-plus t k unit v; within = within-equal (num t) (den t) k unit e };
+      bot-pos = lit< tt;
+      least = least-of (num t) (den t) k e;
+      most = most-of (num t) (den t) k e h;
+    }
+
+pub power-near : (t : Float) (k : ℕ) → k ≤ unit → HasValue t false k unit → Near 274877906945 274877906944 (kernel t) (seriesAt k .top) (seriesAt k .bot)
+power-near t k h v =
+    let n = kernel-near 0 t (over k unit) (fixed-arg t k h v) h in
+    record {
+      sign = n .sign;
+      within = within-weaken (upper ^ errors 0 12 * (rest .bot + rest .top)) (lower ^ errors 0 12 * rest .bot) 274877906945 274877906944 (num (kernel t)) (den (kernel t)) (seriesAt k .top) (seriesAt k .bot) (lit< tt) (lit≤ tt) (n .within);
+    }
+
+-- ---- what a comparison says
+lt-is : (x y : Float) → T (plus x) → T (plus y) → lt x y ≡ ltb (num x * den y) (num y * den x)
+unfolding lt
+lt-is nan y p q = absurd p
+lt-is (inf s) y p q = absurd p
+lt-is (fin true m e) y p q = absurd p
+lt-is (fin false m e) nan p q = absurd q
+lt-is (fin false m e) (inf t) p q = absurd q
+lt-is (fin false m e) (fin true n d) p q = absurd q
+lt-is (fin false m e) (fin false n d) p q = refl
+
+pub below : (x y : Float) → T (plus x) → T (plus y) → lt x y ≡ true → Le 1 1 (num x) (den x) (num y) (den y)
+below x y p q h = mul-le-mul-right 1 (le-of-lt (ltb→lt (num x * den y) (num y * den x) (subst T (sym h ∙ lt-is x y p q) tt)))
+
+pub not-below : (x y : Float) → T (plus x) → T (plus y) → lt x y ≡ false → Le 1 1 (num y) (den y) (num x) (den x)
+not-below x y p q h = mul-le-mul-right 1 (nltb→le (num x * den y) (num y * den x) (subst (λ (b : Bool). T (not b)) (sym h ∙ lt-is x y p q) tt))
+
+-- ---- the bisection: the series at k / 2 ^ 45 is at most m, and at (k + w) / 2 ^ 45 at least m, but for one part in 2 ^ 38
 pub record Bracket (m : Float) (k w : ℕ) : Type 0 where
   pub some : 1 ≤ w
-  pub room : k + w ≤ 1048576
-  pub low-end : (k ≡ 0) ⊎ (le (At k) m ≡ true)
-  pub high-end : (k + w ≡ 1048576) ⊎ (le (At (k + w)) m ≡ false)
+  pub room : k + w ≤ unit
+  pub low-end : Le 274877906945 274877906944 (seriesAt k .top) (seriesAt k .bot) (num m) (den m)
+  pub high-end : Le 274877906945 274877906944 (num m) (den m) (seriesAt (k + w) .top) (seriesAt (k + w) .bot)
 
-pub whole-20 : (k : ℕ) → k ≤ 1048576 → T (inFloat binary64 (pos k))
-unfolding inFloat
-whole-20 k h = le→leb k 9007199254740992 (le-trans h (lit≤ tt))
-
-pub start : (m : Float) → Bracket m 0 1048576
-start m = record { some = lit≤ tt; room = lit≤ tt; low-end = inl refl; high-end = inl refl }
-
-pub step-up : (m : Float) (k w : ℕ) → Bracket m k w → 1 < w → le (At (k + w / 2)) m ≡ true → Bracket m (k + w / 2) (w - w / 2)
-step-up m k w b h l = record {
-  some = omega arith;
-  room = omega (arith, b .room);
-  low-end = inr l;
-  high-end = subst (λ (x : ℕ). (x ≡ 1048576) ⊎ (le (At x) m ≡ false)) (same k w) (b .high-end);
+pub start : (m : Float) → Mantissa m → Bracket m 0 unit
+start m h = record {
+  some = lit≤ tt;
+  room = lit≤ tt;
+  low-end = first (seriesAt 0 .top) (seriesAt 0 .bot) (num m) (den m) (series-zero (over 0 unit) refl) (h .least);
+  high-end = le-weaken 1099511627776 1099511627775 274877906945 274877906944 (num m) (den m) (seriesAt unit .top) (seriesAt unit .bot) (lit< tt) (lit≤ tt) (last (num m) (den m) (seriesAt unit .top) (seriesAt unit .bot) 1099511627775 549755813888 (h .most) (at-whole unit));
 }
   where
-    same : (k w : ℕ) → k + w ≡ k + w / 2 + (w - w / 2)
-    same k w = omega arith
+    first : (t b n d : ℕ) → t * 1 ≤ 1 * b → d ≤ n → t * d * 274877906944 ≤ n * b * 274877906945
+    first t b n d h k = omega (arith, mul-le-mul h k)
 
-pub step-down : (m : Float) (k w : ℕ) → Bracket m k w → 1 < w → le (At (k + w / 2)) m ≡ false → Bracket m k (w / 2)
-step-down m k w b h l = record { some = omega arith; room = omega (arith, b .room); low-end = b .low-end; high-end = inr l }
+    last : (n d t b p q : ℕ) → n ≤ 2 * d → p * b ≤ t * q → n * b * p ≤ t * d * (q * 2)
+    last n d t b p q h k = omega (arith, mul-le-mul-right (b * p) h, mul-le-mul-right d k)
+
+module _ (m v : Float) (k w : ℕ) (M : Mantissa m) (b : Bracket m k w) (wide : 33554432 < w)
+    (n : Near 274877906945 274877906944 v (seriesAt (k + w / 2) .top) (seriesAt (k + w / 2) .bot)) where
+  pub step-down : lt m v ≡ true → Bracket m k (w / 2)
+  step-down l = record {
+    some = omega arith;
+    room = omega (arith, b .room);
+    low-end = b .low-end;
+    high-end = le-trans-ratio 1 1 274877906945 274877906944 (num m) (den m) (num v) (den v) (seriesAt (k + w / 2) .top) (seriesAt (k + w / 2) .bot) (den-pos v) (below m v (M .sign) (n .sign) l) (n .within .0);
+  }
+
+  pub step-up : lt m v ≡ false → Bracket m (k + w / 2) (w - w / 2)
+  step-up l = record {
+    some = omega arith;
+    room = omega (arith, b .room);
+    low-end = le-trans-ratio 274877906945 274877906944 1 1 (seriesAt (k + w / 2) .top) (seriesAt (k + w / 2) .bot) (num v) (den v) (num m) (den m) (den-pos v) (n .within .1) (not-below m v (M .sign) (n .sign) l);
+    high-end = subst (λ (x : ℕ). Le 274877906945 274877906944 (num m) (den m) (seriesAt x .top) (seriesAt x .bot)) (whole k w) (b .high-end);
+  }
+    where
+      whole : (k w : ℕ) → k + w ≡ k + w / 2 + (w - w / 2)
+      whole k w = omega arith
+
+-- 2 ^ -20 further on, the series is at most seven parts in ten million larger
+jump : (k w : ℕ) → w ≤ 33554432 → Le 10000007 10000000 (seriesAt (k + w) .top) (seriesAt (k + w) .bot) (seriesAt k .top) (seriesAt k .bot)
+jump k w h =
+    le-weaken 35184372088832000000000000000000 35184348830672063909593205440512 10000007 10000000 (seriesAt (k + w) .top) (seriesAt (k + w) .bot) (seriesAt k .top) (seriesAt k .bot) (lit< tt) (lit≤ tt)
+    (subst (λ (b : ℕ). seriesAt (k + w) .top * b * 35184348830672063909593205440512 ≤ seriesAt k .top * seriesAt (k + w) .bot * 35184372088832000000000000000000) (series-bot (k + w) k unit)
+    (scaled (seriesAt (k + w) .top) (seriesAt k .top) w (seriesAt (k + w) .bot) 33554432 693147180559945309 35184348830672063909593205440512 35184372088832000000000000000000 h refl (series-mean k (k + w) unit w (lit< tt) refl)))
+  where
+    scaled : (x y w b m l q p : ℕ) → w ≤ m → q + m * l ≡ p → x * p ≤ y * p + w * l * x → x * b * q ≤ y * b * p
+    scaled x y w b m l q p h e k =
+        let a : w * (l * x) ≤ m * (l * x) = mul-le-mul-right (l * x) h in
+        let i : x * (q + m * l) ≡ x * p = ap (λ (z : ℕ). x * z) e in
+        let j : x * q ≤ y * p = omega arith in
+        omega (arith, mul-le-mul-right b j)
+
+pub bracket-solves : (m : Float) (k w : ℕ) → Bracket m k w → w ≤ 33554432 → Solves m k
+bracket-solves m k w b h = record {
+  room = omega (arith, b .room, b .some);
+  near = (
+    le-weaken 274877906945 274877906944 1048577 1048576 (seriesAt k .top) (seriesAt k .bot) (num m) (den m) (lit< tt) (lit≤ tt) (b .low-end),
+    le-weaken (274877906945 * 10000007) (274877906944 * 10000000) 1048577 1048576 (num m) (den m) (seriesAt k .top) (seriesAt k .bot) (lit< tt) (lit≤ tt)
+        (le-trans-ratio 274877906945 274877906944 10000007 10000000 (num m) (den m) (seriesAt (k + w) .top) (seriesAt (k + w) .bot) (seriesAt k .top) (seriesAt k .bot) (series-pos (over (k + w) unit) (lit< tt)) (b .high-end) (jump k w h)),
+  );
+}
+
+-- ---- the test of a guess: y is not above x times 1 + 2 ^ -26, rounded
+abbrev factor : Float
+factor = ofBits binary64 0x3ff0000004000000
+
+raised : (x y : Float) → T (plus x) → T (plus y) → den x ≤ num x * 2 → num x ≤ den x * 4 → lt (mul binary64 x factor) y ≡ false → Le (upper * 67108865) (lower * 67108864) (num y) (den y) (num x) (den x)
+unfolding ofBits
+raised x y p q l h t =
+    let z = mul binary64 x factor in
+    let R : Range binary64 half (num x * 67108865) (den x * 67108864) = range-of (num x * 67108865) (den x * 67108864) 1 3 (inr (omega arith)) (omega arith) (lit≤ tt) (lit≤ tt) in
+    let n = mul-near binary64 half lower 1 1 1 1 x factor (num x) (den x) 67108865 67108864 fine (own x p) (own factor tt) R in
+    regroup upper lower 67108865 67108864 (num y) (den y) (num x) (den x)
+    (le-trans-ratio 1 1 upper lower (num y) (den y) (num z) (den z) (num x * 67108865) (den x * 67108864) (den-pos z) (not-below z y (n .sign) q t) (n .within .0))
+  where
+    own : (x : Float) → T (plus x) → Near 1 1 x (num x) (den x)
+    own x p = record { sign = p; within = within-equal (num x) (den x) (num x) (den x) refl }
+
+    regroup : (u v p q a b c d : ℕ) → a * (d * q) * v ≤ c * p * b * u → a * d * (v * q) ≤ c * b * (u * p)
+    regroup u v p q a b c d h = omega arith
+
+pub test-solves : (m v : Float) (k : ℕ) → Mantissa m → k < unit → Near 274877906945 274877906944 v (seriesAt k .top) (seriesAt k .bot)
+    → lt (mul binary64 m factor) v ≡ false → lt (mul binary64 v factor) m ≡ false → Solves m k
+test-solves m v k M K n h l =
+    let S = seriesAt k in
+    let P : 0 < S .bot = series-pos (over k unit) (lit< tt) in
+    let a = raised m v (M .sign) (n .sign) (omega (arith, M .least)) (omega (arith, M .most)) h in
+    let low-end : den v ≤ num v * 2 = within-atleast 274877906944 (num v) (den v) (S .top) (S .bot) 1 (lit< tt) P (n .within) (omega (arith, series-least (over k unit))) in
+    let high-end : num v ≤ den v * 4 = within-atmost 274877906944 (num v) (den v) (S .top) (S .bot) 2 (lit< tt) P (n .within) (omega (arith, series-most (over k unit) (le-of-lt K))) in
+    let b = raised v m (n .sign) (M .sign) low-end high-end l in
+    record {
+      room = K;
+      near = (
+        le-weaken (274877906945 * (upper * 67108865)) (274877906944 * (lower * 67108864)) 1048577 1048576 (S .top) (S .bot) (num m) (den m) (lit< tt) (lit≤ tt)
+            (le-trans-ratio 274877906945 274877906944 (upper * 67108865) (lower * 67108864) (S .top) (S .bot) (num v) (den v) (num m) (den m) (den-pos v) (n .within .1) a),
+        le-weaken (upper * 67108865 * 274877906945) (lower * 67108864 * 274877906944) 1048577 1048576 (num m) (den m) (S .top) (S .bot) (lit< tt) (lit≤ tt)
+            (le-trans-ratio (upper * 67108865) (lower * 67108864) 274877906945 274877906944 (num m) (den m) (num v) (den v) (S .top) (S .bot) (den-pos v) b (n .within .0)),
+      );
+    }

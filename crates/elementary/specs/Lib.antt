@@ -4,3 +4,4 @@ pub mod Kernel
 pub mod Near
 pub mod Promise
 pub mod Hyperbolic
+pub mod Logarithm

@@ -1,0 +1,40 @@
+use borrow.Author.Needs.{needs}
+use Rattle.elementary.proofs.Root.{test-solves}
+use Rattle.elementary.proofs.log.fraction.Statement.{statement}
+use Rattle.elementary.proofs.log.fraction.Tie as tie
+
+guess-requires : tie.Need-guess-requires
+guess-requires c κs = search needs
+
+power-at-requires : tie.Need-power-at-requires
+power-at-requires c κs = search needs
+
+root-requires : tie.Need-root-requires
+root-requires c κs = search needs
+
+returns : tie.Need-returns
+returns c = search needs
+
+root-requires-2 : tie.Need-root-requires-2
+root-requires-2 c κs = search needs
+
+returns-2 : tie.Need-returns-2
+returns-2 c = search needs
+
+returns-3 : tie.Need-returns-3
+returns-3 c =
+    let p = c .before .before in
+    let g = p .before in
+    test-solves (g .before .args .m) (p .power-at .result) (g .guess .result) (g .before .pre) (g .guess .ensures) (p .power-at .ensures) (c .before .if1 .left) (c .if2 .left)
+
+pub fraction-spec : {M : Type 1} → statement M
+fraction-spec =
+    tie.close
+    (tie.spec
+    guess-requires
+    power-at-requires
+    root-requires
+    returns
+    root-requires-2
+    returns-2
+    returns-3)
