@@ -5,3 +5,4 @@ pub mod Near
 pub mod Promise
 pub mod Hyperbolic
 pub mod Logarithm
+pub mod Functions

@@ -8,6 +8,7 @@ ghost use lib.Ieee.Positive.{num, den};
 ghost use Rattle.elementary.specs.Power.{ceil};
 ghost use Rattle.elementary.specs.Kernel.{kernel, powerUp, powerDown, powerBy, Small, Ranged};
 ghost use Rattle.elementary.specs.Promise.{PowerOf};
+ghost use Rattle.elementary.specs.Functions.{exp2Of, expOf, pow10Of};
 use exact::format::narrow;
 
 pub(crate) const LOG2_E: f64 = 1.4426950408889634;
@@ -96,21 +97,21 @@ fn power_by(factor: f64, least: f32, most: f32, x: f32) -> f32
 
 // 2^x.
 pub fn exp2(x: f32) -> f32
-    ensures { λ r. ⌜ PowerOf 1 1 x r ⌝ }
+    ensures { λ r. ⌜ (r ≡ exp2Of x) × PowerOf 1 1 x r ⌝ }
 {
     power_by(1.0, -126.0, 127.0, x)
 }
 
 // e^x.
 pub fn exp(x: f32) -> f32
-    ensures { λ r. ⌜ PowerOf 1442695040888963407 1000000000000000000 x r ⌝ }
+    ensures { λ r. ⌜ (r ≡ expOf x) × PowerOf 1442695040888963407 1000000000000000000 x r ⌝ }
 {
     power_by(LOG2_E, -87.33654022216797, 88.0296859741211, x)
 }
 
 // 10^x.
 pub fn pow10(x: f32) -> f32
-    ensures { λ r. ⌜ PowerOf 3321928094887362348 1000000000000000000 x r ⌝ }
+    ensures { λ r. ⌜ (r ≡ pow10Of x) × PowerOf 3321928094887362348 1000000000000000000 x r ⌝ }
 {
     power_by(LOG2_10, -37.929779052734375, 38.23080825805664, x)
 }

@@ -1,27 +1,41 @@
-use mathlib.Core.Path.{_≡_, sym, subst}
-use mathlib.Core.Bool.{not}
+use mathlib.Core.Path.{_≡_, refl, sym, subst}
+use mathlib.Core.Bool.{not, true, false}
 use borrow.Author.Needs.{needs}
 use lib.Dec.{T}
-use lib.Ieee.{fits, binary32, binary64, ofBits, div, isNan}
+use lib.Ieee.{Float, fits, binary32, binary64, ofBits, div, isNan, ne}
+use lib.Ieee.Bits.{is-false}
+use lib.Ieee.Compare.{differs-from-itself}
 use lib.Ieee.Fits.{fits-widens, and-i}
 use Rattle.exact.proofs.Narrowing.{no-nan}
+use Rattle.elementary.specs.Functions.{sinhOf}
 use Rattle.elementary.proofs.HalfDifference.{at-nan, below-first, above-last, between, small-between, sinh-between}
 use Rattle.elementary.proofs.hyperbolic.sinh.Statement.{statement}
 use Rattle.elementary.proofs.hyperbolic.sinh.Tie as tie
+
+-- which branch of `sinhOf` each test picks
+at-nan-is : (x : Float) → ne x x ≡ true → x ≡ sinhOf x
+unfolding sinhOf isNan
+at-nan-is x h = subst (λ (y : Float). y ≡ sinhOf y) (sym (differs-from-itself x (subst T (sym h) tt))) refl
+
+number : (x : Float) → ne x x ≡ false → isNan x ≡ false
+number x h = is-false (isNan x) (no-nan x h)
 
 held : (c : tie.Start) → T (fits binary32 (c .args .x))
 held c = subst T (sym (c .good .0 .1)) tt
 
 returns : tie.Need-returns
-returns c = at-nan (c .before .args .x) (c .if1 .taken)
+returns c = (at-nan-is (c .before .args .x) (c .if1 .taken), at-nan (c .before .args .x) (c .if1 .taken))
 
 returns-2 : tie.Need-returns-2
-unfolding ofBits div
-returns-2 c = below-first (c .before .before .args .x) (c .if2 .taken)
+unfolding sinhOf ofBits div
+returns-2 c = (simp (number (c .before .before .args .x) (c .before .if1 .left), c .if2 .taken), below-first (c .before .before .args .x) (c .if2 .taken))
 
 returns-3 : tie.Need-returns-3
-unfolding ofBits div
-returns-3 c = above-last (c .before .before .before .args .x) (held (c .before .before .before)) (c .if3 .taken)
+unfolding sinhOf ofBits div
+returns-3 c = (
+  simp (number (c .before .before .before .args .x) (c .before .before .if1 .left), c .before .if2 .left, c .if3 .taken),
+  above-last (c .before .before .before .args .x) (held (c .before .before .before)) (c .if3 .taken),
+)
 
 float-to-float-y : tie.Need-float-to-float-y
 float-to-float-y c =
@@ -45,12 +59,13 @@ narrow-requires : tie.Need-narrow-requires
 narrow-requires c κs = search needs
 
 returns-4 : tie.Need-returns-4
-unfolding ofBits
+unfolding sinhOf ofBits
 returns-4 c =
     let k = c .before .before .before in
     let i = k .before .before .before in
+    (rw (number (i .before .args .x) (i .if1 .left), k .before .before .if2 .left, k .before .if3 .left, c .narrow .ensures, c .before .power-down .ensures, c .before .before .power-up .ensures),
     rw (c .narrow .ensures, c .before .power-down .ensures, c .before .before .power-up .ensures)
-    (sinh-between (i .before .args .x) (held (i .before)) (between (i .before .args .x) (i .if1 .left) (k .before .before .if2 .left) (k .before .if3 .left)))
+    (sinh-between (i .before .args .x) (held (i .before)) (between (i .before .args .x) (i .if1 .left) (k .before .before .if2 .left) (k .before .if3 .left))))
 
 pub sinh-spec : {M : Type 1} → statement M
 sinh-spec = tie.close (tie.spec returns returns-2 returns-3 float-to-float-y power-up-requires power-down-requires narrow-requires returns-4)

@@ -1,0 +1,33 @@
+-- The seven as functions: which of the results that 01's rules leave open the program gives. What these are near to is in the promises;
+-- definitions of what a block holds cite these, so that they are equations to the last bit. Definitions only.
+use mathlib.Core.Bool.{false, cond}
+use lib.Ieee.{Float, nan, inf, binary32, binary64, ofBits, sub, mul, neg, lt, isNan}
+use Rattle.exact.specs.Narrow.{narrowed}
+use Rattle.elementary.specs.Kernel.{powerUp, powerDown, powerBy}
+
+-- log2 e and log2 10, each to the nearest double
+abbrev pub log2e : Float
+log2e = ofBits binary64 0x3ff71547652b82fe
+
+abbrev pub log2ten : Float
+log2ten = ofBits binary64 0x400a934f0979a371
+
+-- from -126 to 127
+unfoldable pub exp2Of : Float → Float
+exp2Of x = powerBy (ofBits binary64 0x3ff0000000000000) (neg (ofBits binary32 0x42fc0000)) (ofBits binary32 0x42fe0000) x
+
+-- from the least single x with x * log2 e ≥ -126 to the greatest with x * log2 e ≤ 127
+unfoldable pub expOf : Float → Float
+expOf x = powerBy log2e (neg (ofBits binary32 0x42aeac4f)) (ofBits binary32 0x42b00f33) x
+
+-- likewise, by log2 10
+unfoldable pub pow10Of : Float → Float
+pow10Of x = powerBy log2ten (neg (ofBits binary32 0x4217b818)) (ofBits binary32 0x4218ec59) x
+
+-- from 2 ^ -12 to the greatest single whose hyperbolic sine is at most 2 ^ 127
+unfoldable pub sinhOf : Float → Float
+sinhOf x =
+    let y = mul binary64 x log2e in
+    cond (isNan x) nan
+    (cond (lt x (ofBits binary32 0x39800000)) nan
+    (cond (lt (ofBits binary32 0x42b17217) x) (inf false) (narrowed (mul binary64 (sub binary64 (powerUp y) (powerDown y)) (ofBits binary64 0x3fe0000000000000)))))
