@@ -1,7 +1,7 @@
 // Writes the answers that `stdout` holds, by the machine's own arithmetic: Rust's operators and casts on the tables of
 // src/tables.rt. It calls nothing of the port. `black_box` keeps the compiler from working them out itself.
 //
-//     rustc --edition 2021 -O answers.rs -o /tmp/answers && /tmp/answers > stdout
+//     rustc --edition 2021 -O crates/exact_vectors/answers.rs -o target/answers && target/answers > crates/exact_vectors/stdout
 use std::hint::black_box;
 
 include!("src/tables.rt");

@@ -2,8 +2,8 @@ pub mod Rounding
 pub mod Value
 pub mod Narrowing
 pub mod Saturate
-pub mod Whole
-pub mod Sign
+pub mod Leading
+pub mod Magnitude
 pub mod Extreme
 pub mod Wrap
 pub mod Draw
