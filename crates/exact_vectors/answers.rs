@@ -1,7 +1,7 @@
 // Writes the answers that `stdout` holds, by the machine's own arithmetic: Rust's operators and casts on the tables of
 // src/tables.rt. It calls nothing of the port. `black_box` keeps the compiler from working them out itself.
 //
-//     rustc --edition 2021 -O answers.rs && ./answers > stdout && rm answers
+//     rustc --edition 2021 -O crates/exact_vectors/answers.rs -o target/answers && target/answers > crates/exact_vectors/stdout
 use std::hint::black_box;
 
 include!("src/tables.rt");
@@ -43,7 +43,7 @@ fn uniform(h: u64) -> f32 {
     (h >> 40) as f32 / (1u64 << 24) as f32
 }
 
-fn rand01(seed: u32, salt: u64, serial: u64) -> f32 {
+fn rand01(seed: u32, serial: u64, salt: u64) -> f32 {
     uniform(splitmix64(splitmix64((seed as u64) << 32 ^ salt) ^ serial))
 }
 

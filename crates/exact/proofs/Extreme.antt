@@ -1,17 +1,17 @@
 -- The larger and the smaller of two floats, by tests of their order. Assumes nothing.
-use mathlib.Core.Path.{_≡_, refl, sym, ap, ap₂, _∙_, subst}
-use Prim.Native.Nat.{ℕ, zero, suc, _+_, _-_, _*_, _≤_, _<_}
+use mathlib.Core.Path.{_≡_, refl, sym, ap₂, _∙_, subst}
+use Prim.Native.Nat.{ℕ, _+_, _-_, _*_, _≤_}
 use native.Mathlib.Nat.{le-of-lt, zero-mul}
 use native.Mathlib.Omega.{arith}
 use mathlib.Core.Bool.{Bool, true, false, not, _&&_, _||_, Bool·beq, cond, true≢false}
 use borrow.Author.Tests.{le-ltb, ltb-true, ltb-false}
-use lib.IntN.{ℤ, pos}
+use lib.IntN.{pos}
 use lib.Dec.{T, ltb, eqb, eqb→eq}
 use lib.Ieee.{Float, nan, inf, fin, binary32, up, down, isNan, fits, lt, eq, ne, below, level, add, sub, neg}
 use lib.Ieee.Compare.{differs-from-itself, nan-differs}
 use lib.Ieee.Fits.{down-pos, and-l}
-use Rattle.exact.proofs.Sign.{equals-zero, zero-form}
-use Rattle.exact.specs.Order.{negative, smaller, chosen, maximum, minimum}
+use Rattle.exact.proofs.Magnitude.{equals-zero, zero-form}
+use Rattle.exact.specs.Order.{smaller, chosen, maximum, minimum}
 
 -- ---- the chosen one of two
 takes-second : (b : Bool) (x y : Float) → b ≡ true → isNan y ≡ false → y ≡ chosen b x y

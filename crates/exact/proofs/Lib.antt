@@ -5,8 +5,8 @@ pub mod Narrowing
 pub mod Integrals
 pub mod SquareRoot
 pub mod Saturate
-pub mod Whole
-pub mod Sign
+pub mod Leading
+pub mod Magnitude
 pub mod Extreme
 pub mod Wrap
 pub mod Draw

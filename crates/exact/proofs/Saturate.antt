@@ -8,7 +8,7 @@ use lib.IntN.{pos, negℤ}
 use lib.Dec.{T, ltb, eqb, ltb→lt, lt→ltb, nltb→le, eqb→eq, eqb-refl}
 use lib.Arith.{lt-of-le-ne}
 use lib.Pow.{pow-pos, pow-mono}
-use lib.Ieee.{Float, nan, inf, fin, up, down, toUnsigned, toSigned, lt, eq, le, ne}
+use lib.Ieee.{Float, nan, inf, fin, up, down, toUnsigned, toSigned, lt, le, ne}
 use lib.Ieee.Compare.{nan-differs, differs-from-itself}
 use lib.Ieee.Fits.{down-pos, and-r}
 

@@ -1,5 +1,5 @@
 -- Sign and order of floats, as Rust's `f32` has them. Definitions only.
-use mathlib.Core.Bool.{Bool, true, false, not, _&&_, _||_, cond}
+use mathlib.Core.Bool.{Bool, false, not, _&&_, _||_, cond}
 use lib.Ieee.{Float, nan, inf, fin, lt, eq, isNan}
 
 -- x without its sign

@@ -26,7 +26,7 @@ unfoldable pub uniformOf : ℕ → Float
 unfolding round
 uniformOf h = round binary32 false (h / 2 ^ 40) (2 ^ 24)
 
--- a draw from a seed of 32 bits, a salt and a serial
+-- a draw from a seed of 32 bits, a serial and a salt
 unfoldable pub drawn : ℕ → ℕ → ℕ → Float
 unfolding splitMix uniformOf
-drawn seed salt serial = uniformOf (splitMix (bitXor (splitMix (bitXor (seed * 2 ^ 32) salt)) serial))
+drawn seed serial salt = uniformOf (splitMix (bitXor (splitMix (bitXor (seed * 2 ^ 32) salt)) serial))

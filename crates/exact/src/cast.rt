@@ -1,7 +1,6 @@
 // Between floats and integers, as Rust's `as` has it: toward zero and to the nearer end of the range, a NaN to 0; and to
 // the nearest float, a tie to the even one.
 ghost use mathlib.Core.Path.{_≡_};
-ghost use Prim.Native.Nat.{_≤_};
 ghost use lib.IntN.{pos};
 ghost use lib.Ieee as Ieee;
 ghost use lib.Ieee.{binary32, binary64};

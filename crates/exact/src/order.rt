@@ -15,7 +15,7 @@ pub fn abs_f32(x: f32) -> f32
     f32::from_bits(f32::to_bits(x) % 2147483648)
 }
 
-// Rust's `x.max(y)`. Of two zeros the sum is the plus one.
+// Rust's `x.max(y)`. Of two zeros x + y is the plus one, unless both are minus.
 pub fn max_f32(x: f32, y: f32) -> f32
     ensures { λ r. ⌜ r ≡ maximum x y ⌝ }
 {
@@ -34,7 +34,7 @@ pub fn max_f32(x: f32, y: f32) -> f32
     x
 }
 
-// Rust's `x.min(y)`. Of two zeros the sum of their negations is the negated minus one.
+// Rust's `x.min(y)`. Of two zeros -(-x - y) is the minus one, unless both are plus.
 pub fn min_f32(x: f32, y: f32) -> f32
     ensures { λ r. ⌜ r ≡ minimum x y ⌝ }
 {

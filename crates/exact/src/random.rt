@@ -33,9 +33,9 @@ pub fn uniform(h: u64) -> f32
     (h >> 40) as f32 / 16777216.0
 }
 
-// The Rust's `rand01(seed, serial, salt)`: a draw from the bits of the seed input, a salt and an event's serial.
-pub fn rand01(seed: u32, salt: u64, serial: u64) -> f32
-    ensures { λ r. ⌜ r ≡ drawn seed salt serial ⌝ }
+// A draw from the bits of the seed input, an event's serial and a salt.
+pub fn rand01(seed: u32, serial: u64, salt: u64) -> f32
+    ensures { λ r. ⌜ r ≡ drawn seed serial salt ⌝ }
 {
     let salted = splitmix64(((seed as u64) << 32) ^ salt);
     uniform(splitmix64(salted ^ serial))

@@ -62,10 +62,11 @@ returns-4 : tie.Need-returns-4
 unfolding sinhOf ofBits
 returns-4 c =
     let k = c .before .before .before in
-    let i = k .before .before .before in
-    (rw (number (i .before .args .x) (i .if1 .left), k .before .before .if2 .left, k .before .if3 .left, c .narrow .ensures, c .before .power-down .ensures, c .before .before .power-up .ensures),
-    rw (c .narrow .ensures, c .before .power-down .ensures, c .before .before .power-up .ensures)
-    (sinh-between (i .before .args .x) (held (i .before)) (between (i .before .args .x) (i .if1 .left) (k .before .before .if2 .left) (k .before .if3 .left))))
+    let i = k .before .before .before in (
+      rw (number (i .before .args .x) (i .if1 .left), k .before .before .if2 .left, k .before .if3 .left, c .narrow .ensures, c .before .power-down .ensures, c .before .before .power-up .ensures),
+      rw (c .narrow .ensures, c .before .power-down .ensures, c .before .before .power-up .ensures)
+          (sinh-between (i .before .args .x) (held (i .before)) (between (i .before .args .x) (i .if1 .left) (k .before .before .if2 .left) (k .before .if3 .left))),
+    )
 
 pub sinh-spec : {M : Type 1} → statement M
 sinh-spec = tie.close (tie.spec returns returns-2 returns-3 float-to-float-y power-up-requires power-down-requires narrow-requires returns-4)

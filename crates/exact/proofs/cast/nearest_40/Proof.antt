@@ -1,5 +1,5 @@
 use borrow.Author.Needs.{needs}
-use Rattle.exact.proofs.Whole.{drop-40}
+use Rattle.exact.proofs.Leading.{drop-40}
 use Rattle.exact.proofs.cast.nearest_40.Statement.{statement}
 use Rattle.exact.proofs.cast.nearest_40.Tie as tie
 

@@ -6,7 +6,7 @@ use lib.IntN.{pos}
 use lib.Count.{leading-le}
 use lib.Ieee.{binary32, ofBits, ofInt}
 use Rattle.exact.proofs.Narrowing.{small-no-nan}
-use Rattle.exact.proofs.Whole.{shifted, whole-pattern}
+use Rattle.exact.proofs.Leading.{shifted, whole-pattern}
 use Rattle.exact.proofs.cast.u64_to_f32.Statement.{statement}
 use Rattle.exact.proofs.cast.u64_to_f32.Tie as tie
 

@@ -1,6 +1,6 @@
 use borrow.Author.Needs.{needs}
 use Rattle.exact.proofs.Narrowing.{no-nan}
-use Rattle.exact.proofs.Sign.{cleared, cleared-no-nan, magnitude-nan}
+use Rattle.exact.proofs.Magnitude.{cleared, cleared-no-nan, magnitude-nan}
 use Rattle.exact.proofs.order.abs_f32.Statement.{statement}
 use Rattle.exact.proofs.order.abs_f32.Tie as tie
 

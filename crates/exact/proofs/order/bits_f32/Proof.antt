@@ -1,6 +1,6 @@
 use borrow.Author.Needs.{needs}
 use Rattle.exact.proofs.Narrowing.{no-nan}
-use Rattle.exact.proofs.Sign.{nan-bits}
+use Rattle.exact.proofs.Magnitude.{nan-bits}
 use Rattle.exact.proofs.order.bits_f32.Statement.{statement}
 use Rattle.exact.proofs.order.bits_f32.Tie as tie
 

@@ -1,6 +1,6 @@
 use native.Mathlib.Omega.{arith}
 use borrow.Author.Needs.{needs}
-use Rattle.exact.proofs.Sign.{nan-value, value-no-nan}
+use Rattle.exact.proofs.Magnitude.{nan-value, value-no-nan}
 use Rattle.exact.proofs.order.from_bits_f32.Statement.{statement}
 use Rattle.exact.proofs.order.from_bits_f32.Tie as tie
 

@@ -1,5 +1,5 @@
 use lib.Ieee.{ofBits}
-use Rattle.exact.proofs.Sign.{finite-is}
+use Rattle.exact.proofs.Magnitude.{finite-is}
 use Rattle.exact.proofs.order.is_finite_f32.Statement.{statement}
 use Rattle.exact.proofs.order.is_finite_f32.Tie as tie
 

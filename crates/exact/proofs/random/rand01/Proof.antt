@@ -1,7 +1,7 @@
-use mathlib.Core.Path.{_≡_, ap, ap₂, _∙_}
+use mathlib.Core.Path.{_≡_, ap, _∙_}
 use native.Mathlib.Nat.{mod-eq-of-lt}
 use native.Mathlib.Omega.{arith}
-use Prim.Native.Nat.{ℕ, _*_, _%_, _^_}
+use Prim.Native.Nat.{ℕ, _*_, _%_}
 use borrow.Author.Needs.{needs}
 use lib.Bits.{bitXor}
 use Rattle.exact.specs.Random.{splitMix, uniformOf, drawn}

@@ -1,14 +1,14 @@
 -- A whole number's digits, from the leading one on, are the digits of the nearest `f32`'s pattern. Assumes nothing.
-use mathlib.Core.Path.{_≡_, refl, sym, ap, ap₂, _∙_, subst}
+use mathlib.Core.Path.{_≡_, refl, sym, ap, _∙_, subst}
 use Prim.Native.Nat.{ℕ, suc, _+_, _-_, _*_, _/_, _%_, _^_, _≤_, _<_, compare, Ordering, Ordering·lt, Ordering·eq, Ordering·gt}
-use native.Mathlib.Nat.{le-trans, le-of-eq, lt-of-lt-of-le, mul-le-mul-right, mul-lt-mul-of-pos-right, mul-assoc, mul-pos, div-lt-iff-lt-mul, mod-eq-of-lt}
+use native.Mathlib.Nat.{le-trans, le-of-eq, lt-of-lt-of-le, mul-le-mul-right, mul-lt-mul-of-pos-right, mod-eq-of-lt}
 use native.Mathlib.Omega.{arith}
-use mathlib.Core.Bool.{Bool, true, false, cond}
+use mathlib.Core.Bool.{Bool, false, cond}
 use lib.IntN.{pos}
-use lib.Dec.{T, ltb, lt→ltb, lit<}
+use lib.Dec.{ltb, lt→ltb, lit<}
 use lib.Pow.{pow-pos, pow-add}
 use lib.Count.{leadingZeros, leading-top}
-use lib.Ieee.{Float, Format, binary32, ofBits, toBits, round, nearest, ofInt}
+use lib.Ieee.{Float, binary32, ofBits, toBits, round, nearest, ofInt}
 use lib.Ieee.Bits.{ofBits-toBits, is-true}
 use lib.Ieee.Fits.{round-fits, nearest-le}
 use lib.Ieee.Nearest.{closest}

@@ -3,14 +3,14 @@ use mathlib.Core.Path.{_≡_, refl, sym, ap, ap₂, _∙_, subst}
 use Prim.Native.Nat.{ℕ, zero, suc, _+_, _-_, _*_, _/_, _%_, _^_, _≤_, _<_}
 use native.Mathlib.Nat.{le-refl, mul-pos, zero-mul, sub-self, eq-of-mul-eq-mul-right}
 use native.Mathlib.Omega.{arith}
-use mathlib.Core.Bool.{Bool, true, false, not, _&&_, _||_, Bool·beq, cond, true≢false}
+use mathlib.Core.Bool.{Bool, true, false, not, _&&_, Bool·beq, cond, true≢false}
 use borrow.Author.Tests.{lt-leb, lt-ltb, le-ltb}
 use lib.IntN.{ℤ, pos}
-use lib.Dec.{T, leb, ltb, eqb, eqb-refl, lit<}
+use lib.Dec.{T, leb, ltb, eqb}
 use lib.Pow.{pow-pos}
-use lib.Ieee.{Float, nan, inf, fin, Format, binary32, top, hid, ones, prec, emax, low, up, down, odd, ofFields, ofBits, toBits, nanBits, isNan, fits, eq, ne, level, sub, sum, neg, round, div}
+use lib.Ieee.{Float, nan, inf, fin, Format, binary32, hid, ones, prec, emax, low, up, down, odd, ofFields, ofBits, toBits, nanBits, isNan, fits, eq, ne, level, sub, sum, round, div}
 use lib.Ieee.Bits.{ofBits-toBits, nanBits-is, nanBits-above}
-use lib.Ieee.Compare.{differs-from-itself, nan-differs}
+use lib.Ieee.Compare.{differs-from-itself}
 use lib.Ieee.Exact.{HasValue, round-exact}
 use lib.Ieee.Fits.{down-pos}
 use lib.Ieee.Back.{whole-unique}
