@@ -1,4 +1,4 @@
-use mathlib.Core.Path.{_≡_, sym, subst}
+use mathlib.Core.Path.{sym, subst}
 use mathlib.Core.Bool.{not}
 use borrow.Author.Needs.{needs}
 use lib.Dec.{T}
