@@ -14,8 +14,8 @@ pub(crate) const LOG2_E: f64 = 1.4426950408889634;
 
 const LOG2_10: f64 = 3.321928094887362;
 
-// The series of 2^r through the 12th power, by Horner's rule.
-fn series(r: f64) -> f64
+// The series of 2^r through the 12th power, by Horner's rule: the one kernel of this crate's powers and its logarithm.
+pub(crate) fn series(r: f64) -> f64
     ensures { λ v. ⌜ v ≡ kernel r ⌝ }
 {
     let s = 0.00000000044455382718708117 + r * 0.000000000025678435993488206;
