@@ -1,9 +1,9 @@
 -- A power of two whose exponent is a single times a factor: what the program computes, against E at the exact product; and `powerBy`, against the promise.
 -- Assumes nothing.
 use mathlib.Core.Path.{_≡_, refl, sym, ap, _∙_, subst}
-use mathlib.Core.Logic.{_⊎_, inl, inr}
+use mathlib.Core.Logic.{inl, inr}
 use Prim.Native.Nat.{ℕ, zero, suc, _+_, _-_, _*_, _/_, _%_, _^_, _≤_, _<_, suc-le-suc}
-use native.Mathlib.Nat.{le-refl, le-trans, le-of-eq, lt-of-lt-of-le, mul-pos, mul-comm, mul-assoc, mul-left-comm, mul-le-mul-right, mul-le-mul-left, mul-le-mul, le-of-mul-le-mul-right, lt-of-mul-lt-mul-right, mul-one, zero-mul, not-le-of-lt, mul-lt-mul-of-pos-right, pow-suc}
+use native.Mathlib.Nat.{le-refl, le-trans, le-of-eq, mul-pos, mul-left-comm, mul-le-mul-right, mul-le-mul-left, mul-le-mul, le-of-mul-le-mul-right, lt-of-mul-lt-mul-right, zero-mul, not-le-of-lt, mul-lt-mul-of-pos-right, pow-suc}
 use native.Mathlib.Omega.{arith}
 use mathlib.Core.Bool.{Bool, true, false, not, _&&_, cond, true≢false}
 use lib.IntN.{ℤ, pos, negsuc}
@@ -49,7 +49,7 @@ pub record Cap (t b : ℕ) : Type 0 where
   pub room : t * upper ^ 2 ≤ 128 * b * lower ^ 2
 
 -- a single above 0 whose product with a / c is t / b at most
-pub record Tiny (t b a c : ℕ) (x : Float) : Type 0 where
+pub record Argument (t b a c : ℕ) (x : Float) : Type 0 where
   pub sign : T (plus x)
   pub digits : den x ≤ 2 ^ 149
   pub some : 1 ≤ num x
@@ -69,7 +69,7 @@ wide-top = big * 137438953473
 abbrev pub wide-bot : ℕ
 wide-bot = small * 137438953472
 
-module _ (l x : Float) (a c t b : ℕ) (F : Factor l a c) (X : Tiny t b a c x) (B : Cap t b) where
+module _ (l x : Float) (a c t b : ℕ) (F : Factor l a c) (X : Argument t b a c x) (B : Cap t b) where
   low-end : den x * den l ≤ num x * num l * 2 ^ 149
   low-end = bound (num x) (den x) (num l) (den l) (2 ^ 149) (X .digits) (X .some) (F .least)
     where
@@ -276,8 +276,8 @@ module _ {l : Float} {L : ℕ} {i : ℤ} {v K H : ℕ} {j : ℤ} {w M a c : ℕ}
   exact-den : (e : ℤ) → 0 < down e * c
   exact-den e = mul-pos (down-pos e) (N .factor .c-pos)
 
-  tiny : (m : ℕ) (e : ℤ) → T (fits binary32 (fin false m e)) → 0 < m * up e → m * up e * a ≤ 127 * (down e * c) → Tiny 127 1 a c (fin false m e)
-  tiny m e f p h = record { sign = tt; digits = few-digits false m e f; some = p; most = times-one (m * up e * a) (127 * (down e * c)) h }
+  argument : (m : ℕ) (e : ℤ) → T (fits binary32 (fin false m e)) → 0 < m * up e → m * up e * a ≤ 127 * (down e * c) → Argument 127 1 a c (fin false m e)
+  argument m e f p h = record { sign = tt; digits = few-digits false m e f; some = p; most = times-one (m * up e * a) (127 * (down e * c)) h }
 
   positive-in : (m : ℕ) (e : ℤ) → T (fits binary32 (fin false m e)) → 0 < m * up e → m * up e * down j ≤ H * up j * down e
       → Answers (E false (m * up e * a) (down e * c)) (narrowed (powerUp (mul binary64 (fin false m e) l)))
@@ -287,7 +287,7 @@ module _ {l : Float} {L : ℕ} {i : ℤ} {v K H : ℕ} {j : ℤ} {w M a c : ℕ}
       let u = up-least (m * up e * a) (down e * c) in
       let o = up-most (m * up e * a) (down e * c) (exact-den e) k in
       in-range q (narrowed (powerUp (mul binary64 (fin false m e) l))) u o
-      (narrowed-part wide-top wide-bot wide-tight (powerUp (mul binary64 (fin false m e) l)) q (E-pos false (m * up e * a) (down e * c) (exact-den e)) (up-wide l (fin false m e) a c 127 1 (N .factor) (tiny m e f p k) cap-127) u o)
+      (narrowed-part wide-top wide-bot wide-tight (powerUp (mul binary64 (fin false m e) l)) q (E-pos false (m * up e * a) (down e * c) (exact-den e)) (up-wide l (fin false m e) a c 127 1 (N .factor) (argument m e f p k) cap-127) u o)
 
   negative-in : (m : ℕ) (e : ℤ) → T (fits binary32 (fin false m e)) → 0 < m * up e → m * up e * down i ≤ L * up i * down e
       → Answers (E true (m * up e * a) (down e * c)) (narrowed (powerDown (mul binary64 (fin false m e) l)))
@@ -298,7 +298,7 @@ module _ {l : Float} {L : ℕ} {i : ℤ} {v K H : ℕ} {j : ℤ} {w M a c : ℕ}
       let o = down-most (m * up e * a) (down e * c) (exact-den e) in
       in-range q (narrowed (powerDown (mul binary64 (fin false m e) l))) u o
       (narrowed-part wide-top wide-bot wide-tight (powerDown (mul binary64 (fin false m e) l)) q (E-pos true (m * up e * a) (down e * c) (exact-den e))
-      (down-wide l (fin false m e) a c 127 1 (N .factor) (tiny m e f p (le-trans k (mul-le-mul-right (down e * c) (lit≤ {m = 126} {n = 127} tt)))) cap-127) u o)
+      (down-wide l (fin false m e) a c 127 1 (N .factor) (argument m e f p (le-trans k (mul-le-mul-right (down e * c) (lit≤ {m = 126} {n = 127} tt)))) cap-127) u o)
 
   -- at zero it is 1
   at-one : (q : Frac) → LeQ oneQ q → LeQ q oneQ → Answers q (fin false 1 (pos 0))

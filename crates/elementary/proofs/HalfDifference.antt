@@ -1,13 +1,12 @@
 -- Half the difference of e ^ x and e ^ -x, as the program computes it, against the exact one. Assumes nothing.
-use mathlib.Core.Path.{_≡_, refl, sym, ap, _∙_, subst}
-use mathlib.Core.Logic.{_⊎_, inl, inr}
+use mathlib.Core.Path.{_≡_, refl, sym, ap, subst}
+use mathlib.Core.Logic.{inr}
 use mathlib.Core.Bool.{Bool, true, false, not, true≢false}
-use Prim.Native.Nat.{ℕ, zero, suc, _+_, _-_, _*_, _^_, _≤_, _<_}
-use native.Mathlib.Nat.{le-refl, le-trans, le-of-eq, lt-of-lt-of-le, lt-of-le-of-lt, le-of-lt, mul-lt-mul-of-pos-right, not-le-of-lt, mul-pos, mul-comm, mul-assoc, mul-one, mul-le-mul-right, mul-le-mul-left, mul-le-mul, le-of-mul-le-mul-right, lt-of-mul-lt-mul-right}
+use Prim.Native.Nat.{ℕ, _+_, _-_, _*_, _^_, _≤_, _<_}
+use native.Mathlib.Nat.{le-trans, le-of-eq, lt-of-lt-of-le, lt-of-le-of-lt, le-of-lt, mul-lt-mul-of-pos-right, not-le-of-lt, mul-pos, mul-assoc, mul-one, mul-le-mul-right, mul-le-mul-left, mul-le-mul, le-of-mul-le-mul-right, lt-of-mul-lt-mul-right}
 use native.Mathlib.Omega.{arith}
-use lib.IntN.{ℤ, pos, negsuc}
+use lib.IntN.{ℤ, negsuc}
 use lib.Dec.{T, ltb→lt, nltb→le, lit≤, lit<}
-use lib.Pow.{pow-pos}
 use lib.Ieee.{Float, nan, inf, fin, binary32, binary64, up, down, lt, fits, ne, isNan, round, sub, mul, ofBits}
 use lib.Ieee.Fits.{down-pos}
 use lib.Ieee.Compare.{differs-from-itself}
@@ -15,19 +14,19 @@ use lib.Ieee.Positive.{num, den, den-pos}
 use Rattle.exact.specs.Value.{plus}
 use Rattle.exact.specs.Narrow.{narrowed}
 use Rattle.exact.proofs.Narrowing.{no-nan}
-use Rattle.elementary.specs.Fraction.{Within, Le, Frac}
+use Rattle.elementary.specs.Fraction.{Within, Frac}
 use Rattle.elementary.specs.Power.{E}
 use Rattle.elementary.specs.Near.{Near}
 use Rattle.elementary.specs.Kernel.{powerUp, powerDown, Small}
-use Rattle.elementary.specs.Promise.{Part, Answers}
-use Rattle.elementary.specs.Hyperbolic.{Sinh, hyperbolic, halfDifference}
+use Rattle.elementary.specs.Promise.{Answers}
+use Rattle.elementary.specs.Hyperbolic.{Sinh, hyperbolic}
 use Rattle.elementary.proofs.Errors.{upper, lower}
 use Rattle.elementary.proofs.Ratio.{within-trans, within-weaken}
 use Rattle.elementary.proofs.Operations.{Range, round-within, mul-near}
 use Rattle.elementary.proofs.Horner.{half, fine, range-of, within-atleast, within-atmost}
 use Rattle.elementary.proofs.Powers.{sub-is, E-pos, up-most-at, down-one}
 use Rattle.elementary.proofs.Line.{E-line}
-use Rattle.elementary.proofs.ExpFn.{Factor, factor-of, Cap, Tiny, Tight, End, beyond, inside, product-small, up-wide, down-wide, wide-top, wide-bot, narrowed-part, in-range, over-range, few-digits}
+use Rattle.elementary.proofs.ExpFn.{Factor, factor-of, Cap, Argument, Tight, End, beyond, inside, product-small, up-wide, down-wide, wide-top, wide-bot, narrowed-part, in-range, over-range, few-digits}
 
 -- ---- a difference: p and n within one part in 10 ^ 11 of P and N, N at most 4097 / 4098 of P; then p - n is within 8203 parts in 10 ^ 11 of P - N
 abbrev Close11 : ℕ → ℕ → Type 0
@@ -91,7 +90,7 @@ add-back x y h = omega arith
 spread : (s x y b : ℕ) → s + x ≡ y → s * b + x * b ≡ y * b
 spread s x y b e = omega (arith, ap (λ (z : ℕ). z * b) e)
 
-module _ (pn pd nn nd A B C D : ℕ) (pd-pos : 0 < pd) (nd-pos : 0 < nd) (B-pos : 0 < B) (D-pos : 0 < D)
+module _ (pn pd nn nd A B C D : ℕ) (B-pos : 0 < B) (D-pos : 0 < D)
     (hp : Within 100000000001 100000000000 pn pd A B) (hn : Within 100000000001 100000000000 nn nd C D) (g : C * B * 4098 ≤ A * D * 4097) where
   -- over one denominator
   p-most : Close11 (pn * nd * (B * D)) (A * D * (pd * nd))
@@ -109,16 +108,16 @@ module _ (pn pd nn nd A B C D : ℕ) (pd-pos : 0 < pd) (nd-pos : 0 < nd) (B-pos 
   apart : C * B * (pd * nd) * 4098 ≤ A * D * (pd * nd) * 4097
   apart = omega (arith, mul-le-mul-right (pd * nd) g)
 
-  pub floats-order : nn * pd ≤ pn * nd
+  floats-order : nn * pd ≤ pn * nd
   floats-order = cancel-order (nn * pd) (pn * nd) (B * D) (mul-pos B-pos D-pos) (order (pn * nd * (B * D)) (nn * pd * (B * D)) (A * D * (pd * nd)) (C * B * (pd * nd)) p-least n-most apart)
 
-  pub figures-order : C * B ≤ A * D
+  figures-order : C * B ≤ A * D
   figures-order = less (C * B) (A * D) g
     where
       less : (x y : ℕ) → x * 4098 ≤ y * 4097 → x ≤ y
       less x y h = omega arith
 
-  pub figures-share : A * D ≤ 4098 * (A * D - C * B)
+  figures-share : A * D ≤ 4098 * (A * D - C * B)
   figures-share = share (A * D) (C * B) (A * D - C * B) (add-back (A * D) (C * B) figures-order) g
 
   pub difference : Within 100000008203 100000000000 (pn * nd - nn * pd) (pd * nd) (A * D - C * B) (B * D)
@@ -172,10 +171,10 @@ module _ (p n : Float) (P N : Frac) (P-pos : 0 < P .bot) (N-pos : 0 < N .bot) (h
   b-pos = mul-pos P-pos N-pos
 
   exact : Within 100000008203 100000000000 s d S b
-  exact = difference (num p) (den p) (num n) (den n) (P .top) (P .bot) (N .top) (N .bot) (den-pos p) (den-pos n) P-pos N-pos (hp .within) (hn .within) g
+  exact = difference (num p) (den p) (num n) (den n) (P .top) (P .bot) (N .top) (N .bot) P-pos N-pos (hp .within) (hn .within) g
 
   pub S-least : b ≤ 4098 * S
-  S-least = le-trans (mul-le-mul-right (N .bot) least) (figures-share (num p) (den p) (num n) (den n) (P .top) (P .bot) (N .top) (N .bot) (den-pos p) (den-pos n) P-pos N-pos (hp .within) (hn .within) g)
+  S-least = le-trans (mul-le-mul-right (N .bot) least) (figures-share (num p) (den p) (num n) (den n) (P .top) (P .bot) (N .top) (N .bot) P-pos N-pos (hp .within) (hn .within) g)
 
   pub S-most : S ≤ b * 2 ^ 128
   S-most = le-trans (less (P .top * N .bot) (N .top * P .bot)) (le-trans (mul-le-mul-right (N .bot) most) (le-of-eq (turn (P .bot) (N .bot) (2 ^ 128))))
@@ -210,7 +209,7 @@ module _ (p n : Float) (P N : Frac) (P-pos : 0 < P .bot) (N-pos : 0 < N .bot) (h
 
   pub half-difference : Near u v (mul binary64 (sub binary64 p n) one-half) S (b * 2)
   half-difference =
-      let e : sub binary64 p n ≡ r = sub-is binary64 p n (hp .sign) (hn .sign) (floats-order (num p) (den p) (num n) (den n) (P .top) (P .bot) (N .top) (N .bot) (den-pos p) (den-pos n) P-pos N-pos (hp .within) (hn .within) g) in
+      let e : sub binary64 p n ≡ r = sub-is binary64 p n (hp .sign) (hn .sign) (floats-order (num p) (den p) (num n) (den n) (P .top) (P .bot) (N .top) (N .bot) P-pos N-pos (hp .within) (hn .within) g) in
       subst (λ (z : Float). Near u v (mul binary64 z one-half) S (b * 2)) (sym e)
       (subst (λ (z : ℕ). Near u v (mul binary64 r one-half) z (b * 2)) (mul-one S)
       (mul-near binary64 half lower (upper * 100000008203) (lower * 100000000000) 1 1 r one-half S b 1 2 fine near half-near halved-range))
@@ -268,14 +267,14 @@ module _ (m : ℕ) (e : ℤ) (F : T (fits binary32 (fin false m e))) (low-end : 
       go : (n d : ℕ) → 0 < d → d ≤ n * 4096 → 0 < n
       go n d D h = omega arith
 
-  tiny : Tiny 12799999 100000 a c x
-  tiny = record { sign = tt; digits = few-digits false m e F; some = some; most = le-trans (le-of-eq (mul-assoc (m * up e) a 100000)) (inside top-last m e high-end) }
+  argument : Argument 12799999 100000 a c x
+  argument = record { sign = tt; digits = few-digits false m e F; some = some; most = le-trans (le-of-eq (mul-assoc (m * up e) a 100000)) (inside top-last m e high-end) }
 
   abbrev l : Float
   l = ofBits binary64 0x3ff71547652b82fe
 
   pub sinh-small : Small 128 (mul binary64 x l)
-  sinh-small = product-small l x a c 12799999 100000 factor tiny cap
+  sinh-small = product-small l x a c 12799999 100000 factor argument cap
 
   abbrev P : Frac
   P = E false (m * up e * a) (down e * c)
@@ -293,7 +292,7 @@ module _ (m : ℕ) (e : ℤ) (F : T (fits binary32 (fin false m e))) (low-end : 
       go x y h = omega arith
 
   P-most : P .top ≤ P .bot * 2 ^ 128
-  P-most = up-most-at 127 (m * up e * a) (down e * c) C-pos (go (m * up e * a) (down e * c) (tiny .most))
+  P-most = up-most-at 127 (m * up e * a) (down e * c) C-pos (go (m * up e * a) (down e * c) (argument .most))
     where
       go : (A C : ℕ) → A * 100000 ≤ 12799999 * C → A ≤ 128 * C
       go A C h = omega arith
@@ -305,10 +304,10 @@ module _ (m : ℕ) (e : ℤ) (F : T (fits binary32 (fin false m e))) (low-end : 
   n = powerDown (mul binary64 x l)
 
   p-near : Near 100000000001 100000000000 p (P .top) (P .bot)
-  p-near = eleven p P (up-wide l x a c 12799999 100000 factor tiny cap)
+  p-near = eleven p P (up-wide l x a c 12799999 100000 factor argument cap)
 
   n-near : Near 100000000001 100000000000 n (N .top) (N .bot)
-  n-near = eleven n N (down-wide l x a c 12799999 100000 factor tiny cap)
+  n-near = eleven n N (down-wide l x a c 12799999 100000 factor argument cap)
 
   P-pos : 0 < P .bot
   P-pos = E-pos false (m * up e * a) (down e * c) C-pos

@@ -1,9 +1,9 @@
 -- E against powers of two: above 2 ^ k by the slope of its series at 0 at least, and strictly below 2 ^ -126 where the exponent is. Assumes nothing.
-use mathlib.Core.Path.{_≡_, refl, sym, ap, _∙_, subst}
-use mathlib.Core.Logic.{_⊎_, inl, inr}
+use mathlib.Core.Path.{_≡_, sym, ap, _∙_, subst}
+use mathlib.Core.Logic.{inl, inr}
 use mathlib.Core.Bool.{true, false}
 use mathlib.Core.List.{List, [], _∷_, _++_}
-use Prim.Native.Nat.{ℕ, zero, suc, _+_, _-_, _*_, _/_, _%_, _^_, _≤_, _<_}
+use Prim.Native.Nat.{ℕ, suc, _+_, _-_, _*_, _/_, _%_, _^_, _≤_, _<_}
 use native.Mathlib.Nat.{le-trans, le-of-eq, lt-of-lt-of-le, lt-of-not-le, mul-pos, mul-comm, mul-assoc, mul-le-mul-right, mul-le-mul-left, mul-le-mul, le-of-mul-le-mul-right, lt-of-mul-lt-mul-right, mul-lt-mul-of-pos-right, mod-lt, div-add-mod', pow-suc, one-mul, mul-one}
 use native.Mathlib.Omega.{arith}
 use lib.Dec.{lit≤, lit<}

@@ -1,25 +1,25 @@
 -- E(y), 2 ^ y by its series, and what the program computes for it. Assumes nothing.
-use mathlib.Core.Path.{_≡_, refl, sym, ap, ap₂, _∙_, subst, subst₂}
+use mathlib.Core.Path.{_≡_, refl, sym, ap, ap₂, _∙_, subst}
 use mathlib.Core.Logic.{_⊎_, inl, inr}
 use Prim.Native.Nat.{ℕ, zero, suc, _+_, _-_, _*_, _/_, _%_, _^_, _≤_, _<_}
-use native.Mathlib.Nat.{le-refl, le-trans, le-of-eq, le-of-lt, mul-pos, mul-comm, mul-assoc, mul-left-comm, mul-right-comm, mul-le-mul-right, mul-le-mul-left, mul-le-mul, le-of-mul-le-mul-right, mod-lt, div-add-mod', mul-one, one-mul, eq-zero-or-pos, zero-mul, eq-or-lt-of-le, le-of-suc-le-suc, div-lt-iff-lt-mul, div-mul-le-self, mul-sub, div-eq-of-lt, mod-eq-of-lt, pow-suc}
+use native.Mathlib.Nat.{le-refl, le-trans, le-of-eq, le-of-lt, mul-pos, mul-comm, mul-assoc, mul-right-comm, mul-le-mul-right, mul-le-mul-left, mul-le-mul, le-of-mul-le-mul-right, mod-lt, div-add-mod', mul-one, one-mul, eq-zero-or-pos, eq-or-lt-of-le, le-of-suc-le-suc, div-mul-le-self, mul-sub, div-eq-of-lt, mod-eq-of-lt, pow-suc}
 use native.Mathlib.Omega.{arith}
-use mathlib.Core.Bool.{Bool, true, false, not, _&&_, cond}
-use lib.Dec.{T, leb, leb→le, lit≤, lit<, ltb, ltb→lt}
+use mathlib.Core.Bool.{Bool, true, false, not, cond}
+use lib.Dec.{T, lit≤, lit<, ltb, ltb→lt}
 use lib.Pow.{pow-pos, pow-add, pow-mono}
 use lib.IntN.{pos}
-use lib.Ieee.{Float, nan, inf, fin, Format, binary32, binary64, ofBits, ofInt, toUnsigned, round, add, sub, neg, mul, sum, up, down}
+use lib.Ieee.{Float, nan, inf, fin, Format, binary32, binary64, ofBits, ofInt, toUnsigned, round, sub, mul, sum, up}
 use lib.Ieee.Exact.{HasValue}
 use lib.Ieee.Positive.{num, den, den-pos, value→cross}
-use Rattle.elementary.specs.Fraction.{Within, Frac, hornerQ, LeQ, oneQ}
-use Rattle.elementary.proofs.Ratio.{within-trans, within-same, within-sym, within-weaken}
+use Rattle.elementary.specs.Fraction.{Within, Frac, LeQ, oneQ}
+use Rattle.elementary.proofs.Ratio.{within-same}
 use Rattle.exact.specs.Value.{plus}
 use Rattle.elementary.specs.Near.{Near}
 use Rattle.elementary.proofs.Errors.{errors, upper, lower, rest, big, small}
 use Rattle.elementary.proofs.Operations.{Fine, Range, round-within, mul-near}
 use Rattle.exact.proofs.Value.{value-plus}
 use Rattle.elementary.specs.Kernel.{kernel, powerUp, powerDown, Small}
-use Rattle.elementary.proofs.Horner.{Arg, Val, Close, half, fine, AtLeast, AtMost, range-of, within-atmost, within-atleast}
+use Rattle.elementary.proofs.Horner.{Arg, half, fine, AtLeast, AtMost, range-of, within-atmost, within-atleast}
 use Rattle.elementary.proofs.Scale.{field-value}
 use Rattle.elementary.proofs.Whole.{trunc-is, trunc-most, whole-value, ceil-le}
 use Rattle.elementary.specs.Power.{series, ceil, E}

@@ -1,6 +1,6 @@
 -- The whole part and the ceiling of a double from 0 on, as the program finds them. Assumes nothing.
 use mathlib.Core.Path.{_≡_, refl, sym, ap, _∙_, subst}
-use Prim.Native.Nat.{ℕ, suc, _+_, _-_, _*_, _/_, _%_, _^_, _≤_, _<_, min}
+use Prim.Native.Nat.{ℕ, _+_, _-_, _*_, _/_, _%_, _^_, _≤_, _<_, min}
 use native.Mathlib.Nat.{le-trans, le-of-eq, mul-comm, mul-le-mul-right, le-of-mul-le-mul-right, div-lt-iff-lt-mul, div-add-mod', mod-lt, div-le-of-le-mul, lt-of-mul-lt-mul-right, le-antisymm, le-div-iff-mul-le, le-of-suc-le-suc}
 use native.Mathlib.Omega.{arith}
 use mathlib.Core.Bool.{Bool, true, false, not}
@@ -55,7 +55,7 @@ unfolding ofInt
 whole-value n h = round-whole binary64 false n (le-trans h (lit≤ tt))
 
 -- ---- the ceiling
-pub lt-is : (x y : Float) → T (plus x) → T (plus y) → lt x y ≡ ltb (num x * den y) (num y * den x)
+lt-is : (x y : Float) → T (plus x) → T (plus y) → lt x y ≡ ltb (num x * den y) (num y * den x)
 unfolding lt
 lt-is nan y p q = absurd p
 lt-is (inf s) y p q = absurd p

@@ -2,7 +2,7 @@
 -- The rules leave a result from 2 ^ -126 to 2 ^ 127 open within one part in 4,194,304 of the exact figure: there alone the promise limits
 -- the result, and everywhere else it says what the result is.
 use mathlib.Core.Path.{_≡_}
-use mathlib.Core.Bool.{Bool, true, false, cond}
+use mathlib.Core.Bool.{false, cond}
 use Prim.Native.Nat.{ℕ, _+_, _-_, _*_, _^_, _≤_, _<_}
 use lib.Dec.{T}
 use lib.IntN.{pos}

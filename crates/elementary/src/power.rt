@@ -15,7 +15,7 @@ pub(crate) const LOG2_E: f64 = 1.4426950408889634;
 
 const LOG2_10: f64 = 3.321928094887362;
 
-// The series of 2^r through the 12th power, by Horner's rule.
+// The series of 2^r through the 12th power, by Horner's rule: the one kernel of this crate's powers and its logarithm.
 pub(crate) fn series(r: f64) -> f64
     ensures { λ v. ⌜ v ≡ kernel r ⌝ }
 {
@@ -71,7 +71,7 @@ pub(crate) fn power_down(y: f64) -> f64
     series(whole - y) * scale(1023 - n)
 }
 
-// The power x of the base 2^factor: 0 below `least`, plus infinity above `most`.
+// The power x of the base 2^factor. From `least` to `most` the figure is from 2^-126 to 2^127; below it is 0, above it plus infinity.
 fn power_by(factor: f64, least: f32, most: f32, x: f32) -> f32
     requires { ⌜ Ranged factor least most ⌝ }
     ensures { λ r. ⌜ r ≡ powerBy factor least most x ⌝ }

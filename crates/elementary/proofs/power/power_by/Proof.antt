@@ -1,8 +1,8 @@
-use mathlib.Core.Path.{_≡_, sym, ap, subst, _∙_}
+use mathlib.Core.Path.{sym, ap, subst, _∙_}
 use mathlib.Core.Bool.{not}
 use borrow.Author.Needs.{needs}
 use lib.Dec.{T}
-use lib.Ieee.{fits, binary32, binary64, ofBits, div, isNan, Float}
+use lib.Ieee.{fits, binary32, binary64, ofBits, div, isNan}
 use lib.Ieee.Fits.{fits-widens, and-i}
 use Rattle.exact.specs.Narrow.{narrowed}
 use Rattle.exact.proofs.Narrowing.{no-nan}

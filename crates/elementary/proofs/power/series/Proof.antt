@@ -1,5 +1,4 @@
 use mathlib.Core.Path.{refl}
-use lib.Ieee.{add, mul}
 use Rattle.elementary.specs.Kernel.{hornerF}
 use Rattle.elementary.proofs.power.series.Statement.{statement}
 use Rattle.elementary.proofs.power.series.Tie as tie
