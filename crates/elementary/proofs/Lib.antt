@@ -10,6 +10,7 @@ pub mod Lipschitz
 pub mod Root
 pub mod Mean
 pub mod Offset
+pub mod Exponent
 pub mod Log2
 pub mod Near
 pub mod Difference
