@@ -12,6 +12,7 @@ pub mod Line
 pub mod Root
 pub mod Mean
 pub mod Offset
+pub mod Exponent
 pub mod Log2
 pub mod Near
 pub mod Difference

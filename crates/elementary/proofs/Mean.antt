@@ -1,21 +1,19 @@
 -- The series, and E, grow no faster than ln 2 times themselves: S(y) - S(x) ≤ (y - x) * ln 2 * S(y). Assumes nothing.
-use mathlib.Core.Path.{_≡_, refl, sym, ap, ap₂, _∙_, subst, subst₂}
-use mathlib.Core.List.{List, [], _∷_, _++_}
-use Prim.Native.Nat.{ℕ, zero, suc, _+_, _-_, _*_, _/_, _%_, _^_, _≤_, _<_}
-use native.Mathlib.Nat.{le-refl, le-trans, le-of-eq, mul-pos, mul-comm, mul-assoc, mul-left-comm, mul-right-comm, mul-le-mul-right, mul-le-mul-left, mul-le-mul, le-of-mul-le-mul-right, mul-one, one-mul, add-comm, le-of-lt, mod-lt, div-add-mod', pow-suc, eq-or-lt-of-le}
+use mathlib.Core.Path.{_≡_, refl, sym, ap, _∙_, subst, subst₂}
+use mathlib.Core.List.{List, [], _∷_}
+use Prim.Native.Nat.{ℕ, suc, _+_, _-_, _*_, _/_, _%_, _^_, _≤_, _<_}
+use native.Mathlib.Nat.{le-trans, le-of-eq, mul-le-mul-right, mul-le-mul-left, mul-le-mul, le-of-mul-le-mul-right, le-of-lt, mod-lt, div-add-mod', pow-suc, eq-or-lt-of-le}
 use native.Mathlib.Omega.{arith}
-use mathlib.Core.Bool.{Bool, true, false, not, _&&_}
-use lib.Dec.{T, leb, ltb, leb→le, lit≤, lit<}
+use mathlib.Core.Bool.{Bool, true, false, _&&_}
+use lib.Dec.{T, leb, leb→le, lit≤, lit<}
 use lib.Ieee.Fits.{and-l, and-r}
-use mathlib.Core.Logic.{_⊎_, inl, inr}
-use lib.Arith.{digits-div, digits-mod}
-use lib.Pow.{pow-pos, pow-mono}
-use Rattle.elementary.specs.Fraction.{Frac, plusQ, timesQ, hornerQ, oneQ, over, LeQ, Le}
+use mathlib.Core.Logic.{inl, inr}
+use lib.Pow.{pow-mono}
+use Rattle.elementary.specs.Fraction.{Frac, hornerQ, oneQ, over, LeQ, Le}
 use Rattle.elementary.specs.Power.{coef, coefs, series, E}
-use Rattle.elementary.proofs.Ratio.{le-weaken}
 use Rattle.elementary.proofs.Truncation.{leQ-trans}
-use Rattle.elementary.proofs.Series.{series-is, series-pos, series-least, series-most, series-zero, series-mono}
-use Rattle.elementary.proofs.Lipschitz.{same-bot, all-coefs, series-bot, lt-or-ge}
+use Rattle.elementary.proofs.Series.{series-pos, series-least, series-most, series-zero, series-mono}
+use Rattle.elementary.proofs.Lipschitz.{same-bot, series-bot, lt-or-ge}
 use Rattle.elementary.specs.Kernel.{one}
 
 -- the derivative's numerator, over the same denominator

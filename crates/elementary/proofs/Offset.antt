@@ -1,9 +1,9 @@
 -- E moved by a whole number k: E at k + y is 2 ^ k times E at y, of either sign. Assumes nothing.
-use mathlib.Core.Path.{_≡_, refl, sym, ap, ap₂, _∙_, subst, subst₂}
-use Prim.Native.Nat.{ℕ, zero, suc, _+_, _-_, _*_, _/_, _%_, _^_, _≤_, _<_}
-use native.Mathlib.Nat.{le-of-eq, le-of-suc-le-suc, mul-comm, mul-assoc, mul-le-mul-right, mod-lt, div-add-mod', div-mul-le-self, div-lt-iff-lt-mul, mul-sub, mul-one}
+use mathlib.Core.Path.{_≡_, sym, ap, ap₂, _∙_, subst}
+use Prim.Native.Nat.{ℕ, _+_, _-_, _*_, _/_, _%_, _^_, _≤_, _<_}
+use native.Mathlib.Nat.{le-of-eq, le-of-suc-le-suc, mul-comm, mul-le-mul-right, mod-lt, div-add-mod', div-mul-le-self, div-lt-iff-lt-mul, mul-sub}
 use native.Mathlib.Omega.{arith}
-use mathlib.Core.Bool.{Bool, true, false}
+use mathlib.Core.Bool.{true, false}
 use lib.Arith.{digits-div, digits-mod}
 use lib.Pow.{pow-add}
 use Rattle.elementary.specs.Fraction.{Frac, Within, over}

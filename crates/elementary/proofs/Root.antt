@@ -1,21 +1,20 @@
 -- The logarithm of a number from 1 to 2, in units of 2 ^ -45, by the series of 2 ^ t. Assumes nothing.
 use mathlib.Core.Path.{_≡_, refl, sym, ap, _∙_, subst, subst₂}
 use mathlib.Core.Logic.{_⊎_, inl, inr}
-use Prim.Native.Nat.{ℕ, zero, suc, _+_, _-_, _*_, _/_, _^_, _≤_, _<_}
-use native.Mathlib.Nat.{le-trans, le-of-eq, le-of-lt, lt-of-le-of-lt, mul-pos, mul-comm, mul-assoc, mul-right-comm, mul-le-mul, mul-le-mul-left, mul-le-mul-right, le-of-mul-le-mul-right, eq-zero-or-pos, mul-lt-mul-of-pos-right}
+use Prim.Native.Nat.{ℕ, _+_, _-_, _*_, _/_, _^_, _≤_, _<_}
+use native.Mathlib.Nat.{le-trans, le-of-lt, lt-of-le-of-lt, mul-pos, mul-comm, mul-assoc, mul-le-mul, mul-le-mul-left, mul-le-mul-right, eq-zero-or-pos}
 use native.Mathlib.Omega.{arith}
 use mathlib.Core.Bool.{Bool, true, false, not}
 use lib.IntN.{pos}
 use lib.Dec.{T, ltb, ltb→lt, nltb→le, le→leb, lit≤, lit<}
-use lib.Pow.{pow-pos}
-use lib.Ieee.{Float, nan, inf, fin, binary64, round, ofInt, ofBits, mul, lt, inFloat}
+use lib.Ieee.{Float, nan, inf, fin, binary64, ofInt, ofBits, mul, lt, inFloat}
 use lib.Ieee.Exact.{HasValue, round-exact}
 use lib.Ieee.Back.{round-whole}
 use lib.Ieee.Scale.{round-same}
 use lib.Ieee.Positive.{num, den, den-pos, value→cross}
 use Rattle.exact.specs.Value.{plus}
 use Rattle.exact.proofs.Value.{value-plus}
-use Rattle.elementary.specs.Fraction.{Frac, Le, Within, over}
+use Rattle.elementary.specs.Fraction.{Le, over}
 use Rattle.elementary.specs.Near.{Near}
 use Rattle.elementary.proofs.Errors.{upper, lower, errors, rest}
 use Rattle.elementary.specs.Kernel.{kernel}
@@ -164,40 +163,52 @@ bracket-solves m k w b h = record {
   );
 }
 
--- ---- the test of a guess: y is not above x times 1 + 2 ^ -26, rounded
-abbrev factor : Float
-factor = ofBits binary64 0x3ff0000004000000
+-- ---- the test of a guess: y is not above x times f, rounded
+-- a factor from 1 to 2 that leaves room for the error of the series
+pub record Factor (f : Float) : Type 0 where
+  pub sign : T (plus f)
+  pub least : den f ≤ num f
+  pub most : num f ≤ den f * 2
+  pub room : 274877906945 * (upper * num f) * 1048576 ≤ 1048577 * (274877906944 * (lower * den f))
 
-raised : (x y : Float) → T (plus x) → T (plus y) → den x ≤ num x * 2 → num x ≤ den x * 4 → lt (mul binary64 x factor) y ≡ false → Le (upper * 67108865) (lower * 67108864) (num y) (den y) (num x) (den x)
-unfolding ofBits
-raised x y p q l h t =
-    let z = mul binary64 x factor in
-    let R : Range binary64 half (num x * 67108865) (den x * 67108864) = range-of (num x * 67108865) (den x * 67108864) 1 3 (inr (omega arith)) (omega arith) (lit≤ tt) (lit≤ tt) in
-    let n = mul-near binary64 half lower 1 1 1 1 x factor (num x) (den x) 67108865 67108864 fine (own x p) (own factor tt) R in
-    regroup upper lower 67108865 67108864 (num y) (den y) (num x) (den x)
-    (le-trans-ratio 1 1 upper lower (num y) (den y) (num z) (den z) (num x * 67108865) (den x * 67108864) (den-pos z) (not-below z y (n .sign) q t) (n .within .0))
+raised : (f x y : Float) → Factor f → T (plus x) → T (plus y) → den x ≤ num x * 2 → num x ≤ den x * 4 → lt (mul binary64 x f) y ≡ false
+    → Le (upper * num f) (lower * den f) (num y) (den y) (num x) (den x)
+raised f x y F p q l h t =
+    let z = mul binary64 x f in
+    let R : Range binary64 half (num x * num f) (den x * den f) = range-of (num x * num f) (den x * den f) 1 3 (inr (low-end (num x) (den x) (num f) (den f) l (F .least))) (high-end (num x) (den x) (num f) (den f) h (F .most)) (lit≤ tt) (lit≤ tt) in
+    let n = mul-near binary64 half lower 1 1 1 1 x f (num x) (den x) (num f) (den f) fine (own x p) (own f (F .sign)) R in
+    regroup upper lower (num f) (den f) (num y) (den y) (num x) (den x)
+    (le-trans-ratio 1 1 upper lower (num y) (den y) (num z) (den z) (num x * num f) (den x * den f) (den-pos z) (not-below z y (n .sign) q t) (n .within .0))
   where
     own : (x : Float) → T (plus x) → Near 1 1 x (num x) (den x)
     own x p = record { sign = p; within = within-equal (num x) (den x) (num x) (den x) refl }
 
+    low-end : (n d p q : ℕ) → d ≤ n * 2 → q ≤ p → d * q ≤ n * p * 2
+    low-end n d p q h k = omega (arith, mul-le-mul h k)
+
+    high-end : (n d p q : ℕ) → n ≤ d * 4 → p ≤ q * 2 → n * p ≤ d * q * 8
+    high-end n d p q h k = omega (arith, mul-le-mul h k)
+
     regroup : (u v p q a b c d : ℕ) → a * (d * q) * v ≤ c * p * b * u → a * d * (v * q) ≤ c * b * (u * p)
     regroup u v p q a b c d h = omega arith
 
-pub test-solves : (m v : Float) (k : ℕ) → Mantissa m → k < unit → Near 274877906945 274877906944 v (seriesAt k .top) (seriesAt k .bot)
-    → lt (mul binary64 m factor) v ≡ false → lt (mul binary64 v factor) m ≡ false → Solves m k
-test-solves m v k M K n h l =
+pub test-solves : (f m v : Float) (k : ℕ) → Mantissa m → k < unit → Near 274877906945 274877906944 v (seriesAt k .top) (seriesAt k .bot)
+    → lt (mul binary64 m f) v ≡ false → lt (mul binary64 v f) m ≡ false → Factor f → Solves m k
+test-solves f m v k M K n h l F =
     let S = seriesAt k in
     let P : 0 < S .bot = series-pos (over k unit) (lit< tt) in
-    let a = raised m v (M .sign) (n .sign) (omega (arith, M .least)) (omega (arith, M .most)) h in
+    let u = upper * num f in
+    let w = lower * den f in
+    let W : 0 < 274877906944 * w = mul-pos (lit< tt) (mul-pos (lit< tt) (den-pos f)) in
     let low-end : den v ≤ num v * 2 = within-atleast 274877906944 (num v) (den v) (S .top) (S .bot) 1 (lit< tt) P (n .within) (omega (arith, series-least (over k unit))) in
     let high-end : num v ≤ den v * 4 = within-atmost 274877906944 (num v) (den v) (S .top) (S .bot) 2 (lit< tt) P (n .within) (omega (arith, series-most (over k unit) (le-of-lt K))) in
-    let b = raised v m (n .sign) (M .sign) low-end high-end l in
+    let a = le-trans-ratio 274877906945 274877906944 u w (S .top) (S .bot) (num v) (den v) (num m) (den m) (den-pos v) (n .within .1) (raised f m v F (M .sign) (n .sign) (omega (arith, M .least)) (omega (arith, M .most)) h) in
+    let b = le-trans-ratio u w 274877906945 274877906944 (num m) (den m) (num v) (den v) (S .top) (S .bot) (den-pos v) (raised f v m F (n .sign) (M .sign) low-end high-end l) (n .within .0) in
+    let c = subst₂ (λ (x y : ℕ). Le x y (num m) (den m) (S .top) (S .bot)) (mul-comm u 274877906945) (mul-comm w 274877906944) b in
     record {
       room = K;
       near = (
-        le-weaken (274877906945 * (upper * 67108865)) (274877906944 * (lower * 67108864)) 1048577 1048576 (S .top) (S .bot) (num m) (den m) (lit< tt) (lit≤ tt)
-            (le-trans-ratio 274877906945 274877906944 (upper * 67108865) (lower * 67108864) (S .top) (S .bot) (num v) (den v) (num m) (den m) (den-pos v) (n .within .1) a),
-        le-weaken (upper * 67108865 * 274877906945) (lower * 67108864 * 274877906944) 1048577 1048576 (num m) (den m) (S .top) (S .bot) (lit< tt) (lit≤ tt)
-            (le-trans-ratio (upper * 67108865) (lower * 67108864) 274877906945 274877906944 (num m) (den m) (num v) (den v) (S .top) (S .bot) (den-pos v) b (n .within .0)),
+        le-weaken (274877906945 * u) (274877906944 * w) 1048577 1048576 (S .top) (S .bot) (num m) (den m) W (F .room) a,
+        le-weaken (274877906945 * u) (274877906944 * w) 1048577 1048576 (num m) (den m) (S .top) (S .bot) W (F .room) c,
       );
     }

@@ -26,23 +26,9 @@ fn power_at(k: u64) -> f64
     series(fixed(k))
 }
 
-// y - 128 in units of 2^-45, for a y from 128 to below 129, whose last digit is one unit; 0 for any other.
-fn units_past_128(y: f64) -> u64
-    ensures { λ k. ⌜ k < unit ⌝ }
-{
-    if y != y {
-        return 0;
-    }
-    let bits: u64 = f64::to_bits(y);
-    if bits < 4638707616191610880 {
-        return 0;
-    }
-    let k = bits - 4638707616191610880;
-    if k < 35184372088832 { k } else { 0 }
-}
-
 // About log2 of an m from 1 to 2, in units of 2^-45: the series of log2 m in (m - 1) / (m + 1) through the 13th power, and from the
-// square root of 2 on that of log2 (m / 2) in (m - 2) / (m + 2). Only the range is promised: `fraction` tests the value.
+// square root of 2 on that of log2 (m / 2) in (m - 2) / (m + 2). From 128 to 129 the last digit of a double is one unit, so the
+// bits of the sum with 128 count them. Only the range is promised: `fraction` tests the value.
 fn guess(m: f64) -> u64
     ensures { λ k. ⌜ k < unit ⌝ }
 {
@@ -59,7 +45,12 @@ fn guess(m: f64) -> u64
                                 + z
                                     * (0.3205988979753252
                                         + z * (0.2623081892525388 + z * 0.22195308321368667)))));
-    units_past_128(s * sum + (one + 127.0))
+    let y = s * sum + (one + 127.0);
+    if y != y {
+        return 0;
+    }
+    let k = std::num::wrapping_sub_u64(f64::to_bits(y), 4638707616191610880);
+    if k < 35184372088832 { k } else { 0 }
 }
 
 // log2 of m in units of 2^-45, by halving: for an m whose guess fails the test.
@@ -89,10 +80,7 @@ fn fraction(m: f64) -> u64
 {
     let k = guess(m);
     let v = power_at(k);
-    if m * 1.0000000149011612 < v {
-        return root(m);
-    }
-    if v * 1.0000000149011612 < m {
+    if m * 1.0000000149011612 < v || v * 1.0000000149011612 < m {
         return root(m);
     }
     k

@@ -1,4 +1,6 @@
 use borrow.Author.Needs.{needs}
+use lib.Dec.{lit≤}
+use lib.Ieee.{ofBits}
 use Rattle.elementary.proofs.Root.{test-solves}
 use Rattle.elementary.proofs.log.fraction.Statement.{statement}
 use Rattle.elementary.proofs.log.fraction.Tie as tie
@@ -15,26 +17,13 @@ root-requires c κs = search needs
 returns : tie.Need-returns
 returns c = search needs
 
-root-requires-2 : tie.Need-root-requires-2
-root-requires-2 c κs = search needs
-
 returns-2 : tie.Need-returns-2
-returns-2 c = search needs
-
-returns-3 : tie.Need-returns-3
-returns-3 c =
+unfolding ofBits
+returns-2 c =
     let p = c .before .before in
     let g = p .before in
-    test-solves (g .before .args .m) (p .power-at .result) (g .guess .result) (g .before .pre) (g .guess .ensures) (p .power-at .ensures) (c .before .if1 .left) (c .if2 .left)
+    test-solves _ (g .before .args .m) (p .power-at .result) (g .guess .result) (g .before .pre) (g .guess .ensures) (p .power-at .ensures) (c .before .if1 .left) (c .if2 .left) (record { sign = tt; least = lit≤ tt; most = lit≤ tt; room = lit≤ tt })
 
 pub fraction-spec : {M : Type 1} → statement M
 fraction-spec =
-    tie.close
-    (tie.spec
-    guess-requires
-    power-at-requires
-    root-requires
-    returns
-    root-requires-2
-    returns-2
-    returns-3)
+    tie.close (tie.spec guess-requires power-at-requires root-requires returns returns-2)

@@ -6,7 +6,8 @@ use lib.Dec.{T, lit<}
 use lib.Ieee.{Float, fits, binary64, toBits, ofBits}
 use lib.Ieee.Positive.{num, den}
 use Rattle.elementary.specs.Logarithm.{Inverts}
-use Rattle.elementary.proofs.Log2.{digitsOf, parts, mantissa, mantissa-value, mantissa-no-nan, plus-no-nan, inverts}
+use Rattle.elementary.proofs.Exponent.{digitsOf, parts, mantissa, mantissa-value, mantissa-no-nan, plus-no-nan}
+use Rattle.elementary.proofs.Log2.{inverts}
 use Rattle.elementary.proofs.log.positive.Statement.{statement}
 use Rattle.elementary.proofs.log.positive.Tie as tie
 
