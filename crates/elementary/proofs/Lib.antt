@@ -14,4 +14,9 @@ pub mod Difference
 pub mod Digits
 pub mod Shift
 pub mod ExpFn
-pub mod Trig
+pub mod Trigonometry
+pub mod SineCosine
+pub mod SinePart
+pub mod FromZero
+pub mod Signed
+pub mod Terms

@@ -3,3 +3,4 @@ pub mod Power
 pub mod Kernel
 pub mod Near
 pub mod Promise
+pub mod Trigonometric

@@ -1,2 +1,3 @@
 // The seven float functions that vary by platform.
 pub mod power;
+pub mod trig;

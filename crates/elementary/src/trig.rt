@@ -1,0 +1,49 @@
+// Sine and cosine, evaluated in doubles and narrowed. From 0 to 3.2 01's rules leave the result open within 1/4,194,304 of the
+// series, for the sine up to 1.5 within that part of it, so the promises limit it there; everywhere else it is a NaN.
+ghost use mathlib.Core.Path.{_≡_};
+ghost use Rattle.elementary.specs.Kernel.{hornerF, one};
+ghost use Rattle.elementary.specs.Trigonometric.{sixth, half, sineGains, sineLosses, cosineGains, cosineLosses, Sine, Cosine};
+use exact::format::narrow;
+
+// The sine's terms with a plus, x^1/1! to x^17/17!, without x; w is x^4.
+fn sine_gain(w: f64) -> f64
+    ensures { λ r. ⌜ r ≡ hornerF w one sineGains ⌝ }
+{
+    1.0
+        + w
+            * (0.008333333333333333
+                + w
+                    * (0.0000027557319223985893
+                        + w
+                            * (0.00000000016059043836821613
+                                + w * 0.0000000000000028114572543455206)))
+}
+
+// The sine's terms with a minus, x^3/3! to x^15/15!, without x^3.
+fn sine_loss(w: f64) -> f64
+    ensures { λ r. ⌜ r ≡ hornerF w sixth sineLosses ⌝ }
+{
+    0.16666666666666666
+        + w
+            * (0.0001984126984126984
+                + w * (0.00000002505210838544172 + w * 0.0000000000007647163731819816))
+}
+
+// The sine of x.
+pub fn sin(x: f32) -> f32
+    ensures { λ r. ⌜ Sine x r ⌝ }
+{
+    if x > 3.1999998 {
+        return 0.0 / 0.0;
+    }
+    if x >= 0.000244140625 {
+        let y = x as f64;
+        let z = y * y;
+        let w = z * z;
+        return narrow(y * (sine_gain(w) - z * sine_loss(w)));
+    }
+    if x >= 0.0 {
+        return x;
+    }
+    0.0 / 0.0
+}
