@@ -90,10 +90,13 @@ module _ (k : ℕ) (x : Float) where
       below-four n d D h = omega arith
 
 -- ---- the cosine
-pub cosine-nearby : (x : Float) → Argument x → Nearby (gain 0 (size-of x)) (loss 0 (size-of x)) (narrowed (sub binary64 (hornerF (fourth x) one cosineGains) (mul binary64 (second x) (hornerF (fourth x) half cosineLosses))))
+abbrev pub cosine-core : Float → Float
+cosine-core x = sub binary64 (hornerF (fourth x) one cosineGains) (mul binary64 (second x) (hornerF (fourth x) half cosineLosses))
+
+pub cosine-nearby : (x : Float) → Argument x → Nearby (gain 0 (size-of x)) (loss 0 (size-of x)) (narrowed (cosine-core x))
 cosine-nearby x S =
     let X = size-of x in
-    let d = sub binary64 (hornerF (fourth x) one cosineGains) (mul binary64 (second x) (hornerF (fourth x) half cosineLosses)) in
+    let d = cosine-core x in
     narrowed-nearby 0 x cosine-level (S .most) d
     (differs-weaken (gain 0 X) (loss 0 X) (plusQ (plusQ (over 7 268435456) (over 0 1)) (over 0 1)) (gain-bot 0 x) (loss-bot 0 x) (lit< tt) (over 24 268435456) d (lit< tt) (lit≤ tt)
     (to-series 0 x (over 7 268435456) d (lit< tt)

@@ -47,3 +47,48 @@ pub fn sin(x: f32) -> f32
     }
     0.0 / 0.0
 }
+
+// The cosine's terms with a plus, x^0/0! to x^16/16!; w is x^4.
+fn cosine_gain(w: f64) -> f64
+    ensures { λ r. ⌜ r ≡ hornerF w one cosineGains ⌝ }
+{
+    1.0
+        + w
+            * (0.041666666666666664
+                + w
+                    * (0.0000248015873015873
+                        + w * (0.00000000208767569878681 + w * 0.00000000000004779477332387385)))
+}
+
+// The cosine's terms with a minus, x^2/2! to x^18/18!, without x^2.
+fn cosine_loss(w: f64) -> f64
+    ensures { λ r. ⌜ r ≡ hornerF w half cosineLosses ⌝ }
+{
+    0.5
+        + w
+            * (0.001388888888888889
+                + w
+                    * (0.0000002755731922398589
+                        + w
+                            * (0.000000000011470745597729725
+                                + w * 0.00000000000000015619206968586225)))
+}
+
+// The cosine of x.
+pub fn cos(x: f32) -> f32
+    ensures { λ r. ⌜ Cosine x r ⌝ }
+{
+    if x > 3.1999998 {
+        return 0.0 / 0.0;
+    }
+    if x >= 0.000244140625 {
+        let y = x as f64;
+        let z = y * y;
+        let w = z * z;
+        return narrow(cosine_gain(w) - z * cosine_loss(w));
+    }
+    if x >= 0.0 {
+        return 1.0;
+    }
+    0.0 / 0.0
+}
