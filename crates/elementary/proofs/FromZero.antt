@@ -1,30 +1,29 @@
--- What the tests of `sin` and `cos` say of the argument: it is above 3.2, from 2 ^ -12 to 3.2, from 0 to 2 ^ -12, or none of these. Assumes nothing.
+-- What the tests of `sin` and `cos` say of the argument: it is above 3.2, from 2 ^ -12 to 3.2, from 0 to 2 ^ -12, or zeroArg of these. Assumes nothing.
 use mathlib.Core.Path.{_≡_, refl, sym, ap, _∙_, subst}
 use mathlib.Core.Logic.{_⊎_, inl, inr}
-use Prim.Native.Nat.{ℕ, zero, suc, _+_, _-_, _*_, _^_, _≤_, _<_}
-use native.Mathlib.Nat.{le-trans, le-of-eq, le-of-lt, mul-pos, mul-one, zero-mul, mul-le-mul-left}
+use Prim.Native.Nat.{ℕ, _*_, _^_, _≤_, _<_}
+use native.Mathlib.Nat.{le-trans, le-of-eq, le-of-lt, zero-mul, mul-le-mul-left}
 use native.Mathlib.Omega.{arith}
-use mathlib.Core.Bool.{Bool, true, false, not, _&&_, _||_, Bool·beq, true≢false}
+use mathlib.Core.Bool.{Bool, true, false, not, _&&_, _||_, true≢false}
 use lib.IntN.{ℤ, pos, negsuc}
-use lib.Dec.{T, leb, ltb, eqb, lit≤, lit<, ltb→lt, nltb→le, eqb→eq, eqb-refl, lt→ltb}
+use lib.Dec.{T, ltb, eqb, lit≤, ltb→lt, nltb→le, eqb→eq, eqb-refl}
 use lib.Ieee.{Float, nan, inf, fin, binary32, up, down, lt, le, fits, isNan}
-use lib.Ieee.Fits.{and-l, and-r, up-pos, down-pos}
+use lib.Ieee.Fits.{and-l, up-pos, down-pos}
 use lib.Ieee.Positive.{num, den}
-use Rattle.exact.specs.Value.{plus}
-use Rattle.elementary.specs.Trigonometric.{FromZero, Trigonometric, Sine, Nearby, Parted, gain, loss, value}
+use Rattle.elementary.specs.Trigonometric.{FromZero, Trigonometric, Sine, Absolute, Relative, plusTerms, minusTerms, value}
 use Rattle.elementary.proofs.ExpFn.{grid-next}
 use Rattle.elementary.proofs.Trigonometry.{Argument}
-use Rattle.elementary.proofs.SinePart.{small-part, small-nearby, zero-part, zero-nearby, cosine-small}
+use Rattle.elementary.proofs.SineRelative.{small-relative, small-absolute, zero-relative, zero-absolute, cosine-small}
 
 -- the largest `f32` that is not above 3.2, and 2 ^ -12
-abbrev pub top : Float
-top = fin false 3355443 (negsuc 19)
+abbrev pub lastArg : Float
+lastArg = fin false 3355443 (negsuc 19)
 
-abbrev pub tiny : Float
-tiny = fin false 1 (negsuc 11)
+abbrev pub leastArg : Float
+leastArg = fin false 1 (negsuc 11)
 
-abbrev pub none : Float
-none = fin false 0 (pos 0)
+abbrev pub zeroArg : Float
+zeroArg = fin false 0 (pos 0)
 
 or-cases : (a b : Bool) → T (a || b) → T a ⊎ T b
 or-cases true b t = inl tt
@@ -36,7 +35,7 @@ or-false false true e = absurd (true≢false e)
 or-false false false e = (tt, tt)
 
 -- ---- above 3.2
-pub above-range : (x : Float) → T (fits binary32 x) → T (lt top x) → FromZero 16 5 x → ⊥
+pub above-range : (x : Float) → T (fits binary32 x) → T (lt lastArg x) → FromZero 16 5 x → ⊥
 unfolding lt
 above-range nan f h r = r
 above-range (inf s) f h r = r
@@ -50,7 +49,7 @@ above-range (fin false m e) f h r = bad (m * up e) (down e) (down-pos e) (grid-n
     bad a d D h k = omega arith
 
 -- ---- from 2 ^ -12 to 3.2
-reached : (s : Bool) (m : ℕ) (e : ℤ) → T (le tiny (fin s m e)) → (s ≡ false) × (down e ≤ m * up e * 2 ^ 12)
+reached : (s : Bool) (m : ℕ) (e : ℤ) → T (le leastArg (fin s m e)) → (s ≡ false) × (down e ≤ m * up e * 2 ^ 12)
 unfolding le
 reached true m e h = absurd (no (eqb (1 * 1 * down e) (m * up e * 2 ^ 12)) (eqb (1 * 1 * down e) 0) (λ t. bad (down e) (down-pos e) (eqb→eq (1 * 1 * down e) 0 t)) h)
   where
@@ -74,7 +73,7 @@ reached false m e h = (
     same : (d a : ℕ) → 1 * 1 * d ≡ a → d ≤ a
     same d a h = omega arith
 
-pub argument : (x : Float) → lt top x ≡ false → T (le tiny x) → Argument x
+pub argument : (x : Float) → lt lastArg x ≡ false → T (le leastArg x) → Argument x
 unfolding le
 argument nan h k = absurd k
 argument (inf false) h k = absurd (true≢false h)
@@ -103,7 +102,7 @@ up-to (inf s) S h = absurd h
 up-to (fin true m e) S h = absurd (S .sign)
 up-to (fin false m e) S h = h
 
-pub at-argument : (k : ℕ) (x r : Float) → Argument x → Nearby (gain k (value x)) (loss k (value x)) r → Trigonometric k x r
+pub at-argument : (k : ℕ) (x r : Float) → Argument x → Absolute (plusTerms k (value x)) (minusTerms k (value x)) r → Trigonometric k x r
 at-argument k x r S a = record { inside = λ h. a; outside = λ h. absurd (h (in-range x S)) }
 
 -- ---- no number of the range
@@ -122,7 +121,7 @@ within (fin false m e) h = wider (m * up e) (down e) h
 pub no-sine : (x : Float) → (FromZero 16 5 x → ⊥) → Sine x nan
 no-sine x h = record { series = at-none 1 x h; part = λ i. absurd (h (within x i)) }
 
-pub below-range : (x : Float) → le none x ≡ false → FromZero 16 5 x → ⊥
+pub below-range : (x : Float) → le zeroArg x ≡ false → FromZero 16 5 x → ⊥
 unfolding le
 below-range nan h r = r
 below-range (inf s) h r = r
@@ -154,7 +153,7 @@ data Low : Float → Type 0 where
   positive : {m : ℕ} {e : ℤ} → 4096 * (m * up e) ≤ down e → Low (fin false m e)
   negative : {m : ℕ} {e : ℤ} → m ≡ 0 → Low (fin true m e)
 
-low-of : (x : Float) → le tiny x ≡ false → T (le none x) → Low x
+low-of : (x : Float) → le leastArg x ≡ false → T (le zeroArg x) → Low x
 unfolding le
 low-of nan h k = absurd k
 low-of (inf false) h k = absurd (true≢false h)
@@ -175,21 +174,21 @@ low-range (fin false m e) (Low.positive h) = wider (m * up e) (down e) h
     wider a d h = omega arith
 low-range (fin true m e) (Low.negative z) = z
 
-pub sine-low : (x : Float) → le tiny x ≡ false → T (le none x) → Sine x x
+pub sine-low : (x : Float) → le leastArg x ≡ false → T (le zeroArg x) → Sine x x
 sine-low x h k = go x (low-of x h k)
   where
     go : (x : Float) → Low x → Sine x x
     go x l = record { series = record { inside = λ i. near x l; outside = λ i. absurd (i (low-range x l)) }; part = λ i. part x l }
       where
-        near : (x : Float) → Low x → Nearby (gain 1 (value x)) (loss 1 (value x)) x
-        near (fin false m e) (Low.positive a) = small-nearby (fin false m e) tt a
-        near (fin true m e) (Low.negative z) = zero-nearby m e z
+        near : (x : Float) → Low x → Absolute (plusTerms 1 (value x)) (minusTerms 1 (value x)) x
+        near (fin false m e) (Low.positive a) = small-absolute (fin false m e) tt a
+        near (fin true m e) (Low.negative z) = zero-absolute m e z
 
-        part : (x : Float) → Low x → Parted (gain 1 (value x)) (loss 1 (value x)) x
-        part (fin false m e) (Low.positive a) = small-part (fin false m e) tt a
-        part (fin true m e) (Low.negative z) = zero-part m e z
+        part : (x : Float) → Low x → Relative (plusTerms 1 (value x)) (minusTerms 1 (value x)) x
+        part (fin false m e) (Low.positive a) = small-relative (fin false m e) tt a
+        part (fin true m e) (Low.negative z) = zero-relative m e z
 
-pub cosine-low : (x : Float) → le tiny x ≡ false → T (le none x) → Trigonometric 0 x (fin false 1 (pos 0))
+pub cosine-low : (x : Float) → le leastArg x ≡ false → T (le zeroArg x) → Trigonometric 0 x (fin false 1 (pos 0))
 cosine-low x h k = let l = low-of x h k in record { inside = λ i. cosine-small x (few x l); outside = λ i. absurd (i (low-range x l)) }
   where
     few : (x : Float) → Low x → 4096 * num x ≤ den x

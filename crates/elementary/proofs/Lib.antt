@@ -16,7 +16,7 @@ pub mod Shift
 pub mod ExpFn
 pub mod Trigonometry
 pub mod SineCosine
-pub mod SinePart
+pub mod SineRelative
 pub mod FromZero
 pub mod Signed
 pub mod Terms

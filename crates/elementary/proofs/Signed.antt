@@ -1,10 +1,10 @@
 -- A float of either sign beside a difference of two fractions: how far apart the two are, through roundings. Assumes nothing.
 use mathlib.Core.Path.{_≡_, refl, sym, ap, ap₂, _∙_, subst, subst₂}
-use Prim.Native.Nat.{ℕ, zero, suc, _+_, _-_, _*_, _/_, _%_, _^_, _≤_, _<_}
-use native.Mathlib.Nat.{le-refl, le-trans, le-of-eq, le-of-lt, lt-of-lt-of-le, mul-pos, mul-comm, mul-assoc, mul-left-comm, mul-right-comm, mul-le-mul-right, mul-le-mul-left, mul-le-mul, le-of-mul-le-mul-right, div-lt-iff-lt-mul, mul-lt-mul-of-pos-right, pow-suc, mul-one}
+use Prim.Native.Nat.{ℕ, suc, _+_, _-_, _*_, _/_, _^_, _≤_, _<_}
+use native.Mathlib.Nat.{le-trans, le-of-eq, le-of-lt, lt-of-lt-of-le, mul-pos, mul-comm, mul-assoc, mul-le-mul-right, mul-le-mul-left, le-of-mul-le-mul-right, div-lt-iff-lt-mul, mul-lt-mul-of-pos-right, pow-suc, mul-one}
 use native.Mathlib.Omega.{arith}
-use mathlib.Core.Bool.{Bool, true, false, not, cond, true≢false}
-use lib.Dec.{T, leb, ltb, lit≤, lit<, ltb→lt, nltb→le}
+use mathlib.Core.Bool.{Bool, true, false, not, cond}
+use lib.Dec.{T, ltb, lit≤, lit<, ltb→lt, nltb→le}
 use lib.Pow.{pow-pos, pow-add, pow-mono}
 use lib.Ieee.{Float, nan, inf, fin, Format, binary32, binary64, prec, emax, low, up, down, round, size, sub, mul, sum}
 use lib.Ieee.Digits.{size-le}
@@ -17,7 +17,7 @@ use Rattle.exact.specs.Value.{plus}
 use Rattle.exact.specs.Narrow.{narrowed}
 use Rattle.exact.proofs.Rounding.{closest-hi, closest-lo}
 use Rattle.elementary.specs.Fraction.{Frac, over, plusQ, timesQ, LeQ}
-use Rattle.elementary.specs.Trigonometric.{Nearby}
+use Rattle.elementary.specs.Trigonometric.{Absolute, bound}
 use Rattle.elementary.proofs.Truncation.{leQ-trans, leQ-refl, plus-mono, times-mono}
 use Rattle.elementary.proofs.Difference.{exact}
 
@@ -325,8 +325,8 @@ module _ (p n e : Frac) (P : 0 < p .bot) (N : 0 < n .bot) (E : 0 < e .bot) where
   differs-most d (fin false o i) D h k a = apart-most (over (o * up i) (down i)) p n e d (down-pos i) P N E D a h
   differs-most d (fin true o i) D h k a = apart-most (over (o * up i) (down i)) n p e d (down-pos i) N P E D a k
 
-pub nearby-of : (p n : Frac) (z : Float) → Differs p n (over 1 4194304) z → Nearby p n z
-nearby-of p n nan a = absurd a
-nearby-of p n (inf s) a = absurd a
-nearby-of p n (fin false m k) a = record { most = a .0; least = a .1 }
-nearby-of p n (fin true m k) a = record { most = a .1; least = a .0 }
+pub absolute-of : (p n : Frac) (z : Float) → Differs p n bound z → Absolute p n z
+absolute-of p n nan a = absurd a
+absolute-of p n (inf s) a = absurd a
+absolute-of p n (fin false m k) a = record { most = a .0; least = a .1 }
+absolute-of p n (fin true m k) a = record { most = a .1; least = a .0 }

@@ -1,15 +1,15 @@
 -- The terms of a power series, every fourth one, as a polynomial in x ^ 4. Assumes nothing.
-use mathlib.Core.Path.{_≡_, refl, sym, ap, ap₂, _∙_, subst, subst₂}
-use mathlib.Core.Logic.{_⊎_, inl, inr}
+use mathlib.Core.Path.{_≡_, refl, sym, ap, ap₂, _∙_, subst₂}
+use mathlib.Core.Logic.{inl, inr}
 use mathlib.Core.List.{List, [], _∷_}
-use Prim.Native.Nat.{ℕ, zero, suc, _+_, _-_, _*_, _^_, _≤_, _<_}
-use native.Mathlib.Nat.{le-refl, le-trans, le-of-eq, le-of-lt, mul-pos, mul-comm, mul-assoc, mul-one, one-mul, mul-le-mul-right, mul-le-mul-left, pow-zero, pow-suc, pow-le-pow-left, one-le-pow}
+use Prim.Native.Nat.{ℕ, zero, suc, _+_, _*_, _^_, _≤_, _<_}
+use native.Mathlib.Nat.{mul-pos, mul-assoc, mul-one, one-mul, mul-le-mul-right, pow-zero, pow-suc, pow-le-pow-left, one-le-pow}
 use native.Mathlib.Omega.{arith}
 use lib.Dec.{lit≤, lit<}
 use lib.Pow.{pow-add}
 use Rattle.elementary.specs.Fraction.{Frac, over, plusQ, timesQ, hornerQ, LeQ}
 use Rattle.elementary.specs.Power.{fact}
-use Rattle.elementary.specs.Trigonometric.{term, terms, gain, loss}
+use Rattle.elementary.specs.Trigonometric.{term, terms, plusTerms, minusTerms}
 use Rattle.elementary.proofs.Truncation.{leQ-trans, leQ-refl, plus-mono, times-mono, horner-mono, horner-pos, Pos}
 use Rattle.elementary.proofs.Lipschitz.{lt-or-ge}
 use Rattle.elementary.proofs.Signed.{by-eq, plus-zero, times-in, times-out}
@@ -28,11 +28,11 @@ abbrev pub sq : Frac → Frac
 sq X = timesQ X X
 
 -- the two polynomials, without the first one's power of x
-abbrev pub gainPart : ℕ → Frac → Frac
-gainPart k X = hornerQ (sq (sq X)) (inv k) (every4 (k + 4) 7)
+abbrev pub plusPart : ℕ → Frac → Frac
+plusPart k X = hornerQ (sq (sq X)) (inv k) (every4 (k + 4) 7)
 
-abbrev pub lossPart : ℕ → Frac → Frac
-lossPart k X = timesQ (sq X) (hornerQ (sq (sq X)) (inv (k + 2)) (every4 (k + 2 + 4) 7))
+abbrev pub minusPart : ℕ → Frac → Frac
+minusPart k X = timesQ (sq X) (hornerQ (sq (sq X)) (inv (k + 2)) (every4 (k + 2 + 4) 7))
 
 -- ---- positive denominators
 pub fact-pos : (k : ℕ) → 0 < fact k
@@ -138,29 +138,29 @@ module _ (X : Frac) (XP : 0 < X .bot) where
       (times-out (powQ X k) (inv k) (timesQ (sq (sq X)) H))
       (plus-mono a (term k X) b (terms (k + 4) (suc n) X) (by-eq refl (term-is k X) (leQ-refl a)) (by-eq (sym (fourth k X H)) refl (terms-from (k + 4) n)))
 
-  pub gain-pos : (k : ℕ) → 0 < gainPart k X .bot
+  pub plusPart-pos : (k : ℕ) → 0 < plusPart k X .bot
   unfolding poly
-  gain-pos k = poly-pos k 7
+  plusPart-pos k = poly-pos k 7
 
-  pub loss-pos : (k : ℕ) → 0 < lossPart k X .bot
+  pub minusPart-pos : (k : ℕ) → 0 < minusPart k X .bot
   unfolding poly
-  loss-pos k = mul-pos (mul-pos XP XP) (poly-pos (k + 2) 7)
+  minusPart-pos k = mul-pos (mul-pos XP XP) (poly-pos (k + 2) 7)
 
-  pub gain-to : (k : ℕ) → LeQ (gain k X) (timesQ (powQ X k) (gainPart k X))
+  pub plusTerms-to : (k : ℕ) → LeQ (plusTerms k X) (timesQ (powQ X k) (plusPart k X))
   unfolding poly
-  gain-to k = terms-to k 7
+  plusTerms-to k = terms-to k 7
 
-  pub gain-from : (k : ℕ) → LeQ (timesQ (powQ X k) (gainPart k X)) (gain k X)
+  pub plusTerms-from : (k : ℕ) → LeQ (timesQ (powQ X k) (plusPart k X)) (plusTerms k X)
   unfolding poly
-  gain-from k = terms-from k 7
+  plusTerms-from k = terms-from k 7
 
-  pub loss-to : (k : ℕ) → LeQ (loss k X) (timesQ (powQ X k) (lossPart k X))
+  pub minusTerms-to : (k : ℕ) → LeQ (minusTerms k X) (timesQ (powQ X k) (minusPart k X))
   unfolding poly
-  loss-to k = by-eq refl (sym (square k X (poly (k + 2) 7))) (terms-to (k + 2) 7)
+  minusTerms-to k = by-eq refl (sym (square k X (poly (k + 2) 7))) (terms-to (k + 2) 7)
 
-  pub loss-from : (k : ℕ) → LeQ (timesQ (powQ X k) (lossPart k X)) (loss k X)
+  pub minusTerms-from : (k : ℕ) → LeQ (timesQ (powQ X k) (minusPart k X)) (minusTerms k X)
   unfolding poly
-  loss-from k = by-eq (sym (square k X (poly (k + 2) 7))) refl (terms-from (k + 2) 7)
+  minusTerms-from k = by-eq (sym (square k X (poly (k + 2) 7))) refl (terms-from (k + 2) 7)
 
   pub no-power : (H : Frac) → timesQ (powQ X 0) H ≡ H
   no-power H = ap₂ (λ (t b : ℕ). over t b) (ap (λ (z : ℕ). z * H .top) (pow-zero (X .top)) ∙ one-mul (H .top)) (ap (λ (z : ℕ). z * H .bot) (pow-zero (X .bot)) ∙ one-mul (H .bot))
@@ -174,11 +174,11 @@ module _ (X : Frac) (XP : 0 < X .bot) where
 pub sq-mono : (X Y : Frac) → LeQ X Y → LeQ (sq X) (sq Y)
 sq-mono X Y h = times-mono X Y X Y h h
 
-pub gain-mono : (k : ℕ) (X Y : Frac) → LeQ X Y → LeQ (gainPart k X) (gainPart k Y)
-gain-mono k X Y h = horner-mono (sq (sq X)) (sq (sq Y)) (inv k) (every4 (k + 4) 7) (sq-mono (sq X) (sq Y) (sq-mono X Y h))
+pub plusPart-mono : (k : ℕ) (X Y : Frac) → LeQ X Y → LeQ (plusPart k X) (plusPart k Y)
+plusPart-mono k X Y h = horner-mono (sq (sq X)) (sq (sq Y)) (inv k) (every4 (k + 4) 7) (sq-mono (sq X) (sq Y) (sq-mono X Y h))
 
-pub loss-mono : (k : ℕ) (X Y : Frac) → LeQ X Y → LeQ (lossPart k X) (lossPart k Y)
-loss-mono k X Y h = times-mono (sq X) (sq Y) (hornerQ (sq (sq X)) (inv (k + 2)) (every4 (k + 2 + 4) 7)) (hornerQ (sq (sq Y)) (inv (k + 2)) (every4 (k + 2 + 4) 7)) (sq-mono X Y h) (horner-mono (sq (sq X)) (sq (sq Y)) (inv (k + 2)) (every4 (k + 2 + 4) 7) (sq-mono (sq X) (sq Y) (sq-mono X Y h)))
+pub minusPart-mono : (k : ℕ) (X Y : Frac) → LeQ X Y → LeQ (minusPart k X) (minusPart k Y)
+minusPart-mono k X Y h = times-mono (sq X) (sq Y) (hornerQ (sq (sq X)) (inv (k + 2)) (every4 (k + 2 + 4) 7)) (hornerQ (sq (sq Y)) (inv (k + 2)) (every4 (k + 2 + 4) 7)) (sq-mono X Y h) (horner-mono (sq (sq X)) (sq (sq Y)) (inv (k + 2)) (every4 (k + 2 + 4) 7) (sq-mono (sq X) (sq Y) (sq-mono X Y h)))
 
 -- ---- up to 3.2 two such sums are less than 4 apart, since each grows: what one is at the end of a part of the range against what the other is at its start
 pub terms-gap : (i j : ℕ) (X : Frac) → 0 < X .bot → 5 * X .top ≤ 16 * X .bot → LeQ (terms i 8 (over 13 5)) (plusQ (terms j 8 (over 0 1)) (over 15 4)) → LeQ (terms i 8 (over 16 5)) (plusQ (terms j 8 (over 13 5)) (over 15 4))
@@ -194,7 +194,7 @@ terms-gap i j X XP h a b = elim (lt-or-ge (5 * X .top) (13 * X .bot)) [
         (leQ-trans (terms i 8 Y) (plusQ (terms j 8 Z) (over 15 4)) (plusQ (terms j 8 X) (over 15 4)) (mul-pos (terms-pos j 8 Z ZP) (lit< tt)) t (plus-mono (terms j 8 Z) (terms j 8 X) (over 15 4) (over 15 4) (terms-mono j 8 Z X v) (leQ-refl (over 15 4))))
 
 abbrev pub Level : ℕ → Type 0
-Level k = (X : Frac) → 0 < X .bot → 5 * X .top ≤ 16 * X .bot → LeQ (gain k X) (plusQ (loss k X) (over 15 4)) × LeQ (loss k X) (plusQ (gain k X) (over 15 4))
+Level k = (X : Frac) → 0 < X .bot → 5 * X .top ≤ 16 * X .bot → LeQ (plusTerms k X) (plusQ (minusTerms k X) (over 15 4)) × LeQ (minusTerms k X) (plusQ (plusTerms k X) (over 15 4))
 
 pub cosine-level : Level 0
 unfolding terms

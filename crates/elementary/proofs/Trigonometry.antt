@@ -1,14 +1,14 @@
 -- The two polynomials of a sine or a cosine in doubles, at an x from 2 ^ -12 to 3.2: their difference is near that of the two sums of the series. Assumes nothing.
-use mathlib.Core.Path.{_≡_, refl, sym, ap, ap₂, _∙_, subst, subst₂}
-use mathlib.Core.Logic.{_⊎_, inl, inr}
+use mathlib.Core.Path.{_≡_, refl, sym, ap, subst}
+use mathlib.Core.Logic.{inr}
 use mathlib.Core.List.{List, [], _∷_, _++_}
-use Prim.Native.Nat.{ℕ, zero, suc, _+_, _-_, _*_, _/_, _^_, _≤_, _<_}
-use native.Mathlib.Nat.{le-refl, le-trans, le-of-eq, mul-pos, mul-comm, mul-assoc, mul-left-comm, mul-le-mul-right, mul-le-mul-left, mul-le-mul, le-of-mul-le-mul-right, one-le-pow}
+use Prim.Native.Nat.{ℕ, zero, suc, _+_, _*_, _^_, _≤_, _<_}
+use native.Mathlib.Nat.{le-refl, le-trans, le-of-eq, mul-pos, mul-comm, mul-le-mul-right, mul-le-mul-left, mul-le-mul, le-of-mul-le-mul-right, one-le-pow}
 use native.Mathlib.Omega.{arith}
 use mathlib.Core.Bool.{false}
 use lib.Dec.{T, lit≤, lit<}
 use lib.ListN.{length}
-use lib.Pow.{pow-mono, pow-pos, pow-add}
+use lib.Pow.{pow-mono, pow-add}
 use lib.Ieee.{Float, binary64, mul, sub, round}
 use lib.Ieee.Positive.{num, den, den-pos}
 use Rattle.exact.specs.Value.{plus}
@@ -20,8 +20,8 @@ use Rattle.elementary.proofs.Operations.{Range, mul-is, round-within}
 use Rattle.elementary.proofs.Horner.{Close, Arg, Val, Coef, Coefs, horner-near, half, fine, AtLeast, AtMost, range-of, close-up, mul-close, mul-most, within-atleast}
 use Rattle.elementary.proofs.Truncation.{leQ-trans, leQ-refl, horner-mono, horner-pos, plus-mono, times-mono, cut-below}
 use Rattle.elementary.proofs.Difference.{rel-abs}
-use Rattle.elementary.proofs.Signed.{Differs, size-of, by-eq, plus-zero, times-out, sub-differs, differs-from, differs-weaken}
-use Rattle.elementary.proofs.Terms.{inv, every4, sq, gainPart, lossPart, inv-pos, every4-pos, gain-pos, loss-pos}
+use Rattle.elementary.proofs.Signed.{Differs, size-of, times-out, sub-differs, differs-from, differs-weaken}
+use Rattle.elementary.proofs.Terms.{inv, every4, sq, plusPart, minusPart, inv-pos, every4-pos, plusPart-pos, minusPart-pos}
 
 self-close : (x : Float) → T (plus x) → Close 0 x (over (num x) (den x))
 self-close x p = record { sign = p; within = within-refl 1 1 (num x) (den x) (le-refl 1) }
@@ -247,15 +247,15 @@ pub record Pair (k : ℕ) (c : Float) (cs : List Float) (d : Float) (ds : List F
   pub qs : List Frac
   pub r : Frac
   pub rs : List Frac
-  pub gained : Poly k c cs qs r rs
+  pub plusPoly : Poly k c cs qs r rs
   pub us : List Frac
   pub v : Frac
   pub vs : List Frac
-  pub lost : Poly (k + 2) d ds us v vs
-  pub gain-most : LeQ (gainPart k (over 16 5)) (over 8 1)
-  pub loss-most : LeQ (lossPart k (over 16 5)) (over 8 1)
-  pub gain-cut : LeQ (grown 105 (length qs) (hornerQ (over 65536 625) r rs)) (over 3 268435456)
-  pub loss-cut : LeQ (timesQ (over 256 25) (grown 105 (length us) (hornerQ (over 65536 625) v vs))) (over 3 268435456)
+  pub minusPoly : Poly (k + 2) d ds us v vs
+  pub plus-most : LeQ (plusPart k (over 16 5)) (over 8 1)
+  pub minus-most : LeQ (minusPart k (over 16 5)) (over 8 1)
+  pub plus-cut : LeQ (grown 105 (length qs) (hornerQ (over 65536 625) r rs)) (over 3 268435456)
+  pub minus-cut : LeQ (timesQ (over 256 25) (grown 105 (length us) (hornerQ (over 65536 625) v vs))) (over 3 268435456)
 
 module _ (k : ℕ) (c : Float) (cs : List Float) (d : Float) (ds : List Float) (K : Pair k c cs d ds) (x : Float) (S : Argument x) where
   abbrev pF : Float
@@ -280,35 +280,35 @@ module _ (k : ℕ) (c : Float) (cs : List Float) (d : Float) (ds : List Float) (
   square-pos = mul-pos (den-pos x) (den-pos x)
 
   pC-pos : 0 < pC .bot
-  pC-pos = near x S k c cs (K .qs) (K .r) (K .rs) (K .gained) .bot-pos
+  pC-pos = near x S k c cs (K .qs) (K .r) (K .rs) (K .plusPoly) .bot-pos
 
   nQ-pos : 0 < nQ .bot
-  nQ-pos = near x S (k + 2) d ds (K .us) (K .v) (K .vs) (K .lost) .bot-pos
+  nQ-pos = near x S (k + 2) d ds (K .us) (K .v) (K .vs) (K .minusPoly) .bot-pos
 
   nC-pos : 0 < nC .bot
   nC-pos = mul-pos square-pos nQ-pos
 
   -- both are at most 8
-  pub p-eight : LeQ (gainPart k (size-of x)) (over 8 1)
-  p-eight = leQ-trans (gainPart k (size-of x)) (gainPart k (over 16 5)) (over 8 1) (gain-pos (over 16 5) (lit< tt) k) (horner-mono (W x) (over 65536 625) (inv k) (every4 (k + 4) 7) (W-most x S)) (K .gain-most)
+  pub p-eight : LeQ (plusPart k (size-of x)) (over 8 1)
+  p-eight = leQ-trans (plusPart k (size-of x)) (plusPart k (over 16 5)) (over 8 1) (plusPart-pos (over 16 5) (lit< tt) k) (horner-mono (W x) (over 65536 625) (inv k) (every4 (k + 4) 7) (W-most x S)) (K .plus-most)
 
-  pub n-eight : LeQ (lossPart k (size-of x)) (over 8 1)
+  pub n-eight : LeQ (minusPart k (size-of x)) (over 8 1)
   n-eight =
-      leQ-trans (lossPart k (size-of x)) (lossPart k (over 16 5)) (over 8 1) (loss-pos (over 16 5) (lit< tt) k)
+      leQ-trans (minusPart k (size-of x)) (minusPart k (over 16 5)) (over 8 1) (minusPart-pos (over 16 5) (lit< tt) k)
       (times-mono (sq (size-of x)) (over 256 25) nW (hornerQ (over 65536 625) (inv (k + 2)) (every4 (k + 2 + 4) 7)) (square-most x S) (horner-mono (W x) (over 65536 625) (inv (k + 2)) (every4 (k + 2 + 4) 7) (W-most x S)))
-      (K .loss-most)
+      (K .minus-most)
 
-  pC-most : LeQ pC (gainPart k (size-of x))
-  pC-most = cut-most x S k c cs (K .qs) (K .r) (K .rs) (K .gained)
+  pC-most : LeQ pC (plusPart k (size-of x))
+  pC-most = cut-most x S k c cs (K .qs) (K .r) (K .rs) (K .plusPoly)
 
-  nC-most : LeQ nC (lossPart k (size-of x))
-  nC-most = times-mono (sq (size-of x)) (sq (size-of x)) nQ nW (leQ-refl (sq (size-of x))) (cut-most x S (k + 2) d ds (K .us) (K .v) (K .vs) (K .lost))
+  nC-most : LeQ nC (minusPart k (size-of x))
+  nC-most = times-mono (sq (size-of x)) (sq (size-of x)) nQ nW (leQ-refl (sq (size-of x))) (cut-most x S (k + 2) d ds (K .us) (K .v) (K .vs) (K .minusPoly))
 
   p-ways : LeQ (size-of pF) (plusQ pC (over 16 281474976710656)) × LeQ pC (plusQ (size-of pF) (over 16 281474976710656)) × (num pF < den pF * 2 ^ 5)
-  p-ways = both-ways (num pF) (den pF) (pC .top) (pC .bot) (den-pos pF) pC-pos (plain x S k c cs (K .qs) (K .r) (K .rs) (K .gained)) (to-eight pC (leQ-trans pC (gainPart k (size-of x)) (over 8 1) (gain-pos (size-of x) (den-pos x) k) pC-most p-eight))
+  p-ways = both-ways (num pF) (den pF) (pC .top) (pC .bot) (den-pos pF) pC-pos (plain x S k c cs (K .qs) (K .r) (K .rs) (K .plusPoly)) (to-eight pC (leQ-trans pC (plusPart k (size-of x)) (over 8 1) (plusPart-pos (size-of x) (den-pos x) k) pC-most p-eight))
 
   n-ways : LeQ (size-of nF) (plusQ nC (over 16 281474976710656)) × LeQ nC (plusQ (size-of nF) (over 16 281474976710656)) × (num nF < den nF * 2 ^ 5)
-  n-ways = both-ways (num nF) (den nF) (nC .top) (nC .bot) (den-pos nF) nC-pos (times-square x S (k + 2) d ds (K .us) (K .v) (K .vs) (K .lost)) (to-eight nC (leQ-trans nC (lossPart k (size-of x)) (over 8 1) (loss-pos (size-of x) (den-pos x) k) nC-most n-eight))
+  n-ways = both-ways (num nF) (den nF) (nC .top) (nC .bot) (den-pos nF) nC-pos (times-square x S (k + 2) d ds (K .us) (K .v) (K .vs) (K .minusPoly)) (to-eight nC (leQ-trans nC (minusPart k (size-of x)) (over 8 1) (minusPart-pos (size-of x) (den-pos x) k) nC-most n-eight))
 
   -- in floats, against the polynomials that are cut
   abbrev rounded : Frac
@@ -317,33 +317,33 @@ module _ (k : ℕ) (c : Float) (cs : List Float) (d : Float) (ds : List Float) (
   short : Differs pC nC rounded (sub binary64 pF nF)
   short =
       differs-from (size-of pF) (size-of nF) (plusQ (over 0 1) (over 1 562949953421312)) (den-pos pF) (den-pos nF) (lit< tt) pC nC (over 16 281474976710656) (sub binary64 pF nF) pC-pos nC-pos (lit< tt) (p-ways .1) (p-ways .0) (n-ways .1) (n-ways .0)
-      (sub-differs pF nF 5 49 (near x S k c cs (K .qs) (K .r) (K .rs) (K .gained) .close .sign) (squared x S (k + 2) d ds (K .us) (K .v) (K .vs) (K .lost) .sign) (p-ways .2) (n-ways .2) refl (lit≤ tt))
+      (sub-differs pF nF 5 49 (near x S k c cs (K .qs) (K .r) (K .rs) (K .plusPoly) .close .sign) (squared x S (k + 2) d ds (K .us) (K .v) (K .vs) (K .minusPoly) .sign) (p-ways .2) (n-ways .2) refl (lit≤ tt))
 
   -- the terms that are cut off
   abbrev cut-off : Frac
   cut-off = over 3 268435456
 
-  p-rest : LeQ (gainPart k (size-of x)) (plusQ pC cut-off)
+  p-rest : LeQ (plusPart k (size-of x)) (plusQ pC cut-off)
   p-rest =
       let g = grown 105 (length (K .qs)) (hornerQ (over 65536 625) (K .r) (K .rs)) in
-      leQ-trans (gainPart k (size-of x)) (plusQ pC g) (plusQ pC cut-off) (mul-pos pC-pos (grown-pos 105 (length (K .qs)) (hornerQ (over 65536 625) (K .r) (K .rs)) (K .gained .end-pos)))
-      (cut-least x S k c cs (K .qs) (K .r) (K .rs) (K .gained)) (plus-mono pC pC g cut-off (leQ-refl pC) (K .gain-cut))
+      leQ-trans (plusPart k (size-of x)) (plusQ pC g) (plusQ pC cut-off) (mul-pos pC-pos (grown-pos 105 (length (K .qs)) (hornerQ (over 65536 625) (K .r) (K .rs)) (K .plusPoly .end-pos)))
+      (cut-least x S k c cs (K .qs) (K .r) (K .rs) (K .plusPoly)) (plus-mono pC pC g cut-off (leQ-refl pC) (K .plus-cut))
 
-  n-rest : LeQ (lossPart k (size-of x)) (plusQ nC cut-off)
+  n-rest : LeQ (minusPart k (size-of x)) (plusQ nC cut-off)
   n-rest =
       let g = grown 105 (length (K .us)) (hornerQ (over 65536 625) (K .v) (K .vs)) in
-      let G = grown-pos 105 (length (K .us)) (hornerQ (over 65536 625) (K .v) (K .vs)) (K .lost .end-pos) in
+      let G = grown-pos 105 (length (K .us)) (hornerQ (over 65536 625) (K .v) (K .vs)) (K .minusPoly .end-pos) in
       let X2 = sq (size-of x) in
       leQ-trans (timesQ X2 nW) (timesQ X2 (plusQ nQ g)) (plusQ nC cut-off) (mul-pos square-pos (mul-pos nQ-pos G))
-      (times-mono X2 X2 nW (plusQ nQ g) (leQ-refl X2) (cut-least x S (k + 2) d ds (K .us) (K .v) (K .vs) (K .lost)))
+      (times-mono X2 X2 nW (plusQ nQ g) (leQ-refl X2) (cut-least x S (k + 2) d ds (K .us) (K .v) (K .vs) (K .minusPoly)))
       (leQ-trans (timesQ X2 (plusQ nQ g)) (plusQ nC (timesQ X2 g)) (plusQ nC cut-off) (mul-pos nC-pos (mul-pos square-pos G)) (times-out X2 nQ g)
       (plus-mono nC nC (timesQ X2 g) cut-off (leQ-refl nC)
-      (leQ-trans (timesQ X2 g) (timesQ (over 256 25) g) cut-off (mul-pos {m = 25} (lit< tt) G) (times-mono X2 (over 256 25) g g (square-most x S) (leQ-refl g)) (K .loss-cut))))
+      (leQ-trans (timesQ X2 g) (timesQ (over 256 25) g) cut-off (mul-pos {m = 25} (lit< tt) G) (times-mono X2 (over 256 25) g g (square-most x S) (leQ-refl g)) (K .minus-cut))))
 
   more-than : (p q : Frac) → LeQ p q → LeQ p (plusQ q cut-off)
   more-than p q h = omega (arith, mul-le-mul-right 268435456 h)
 
-  pub between : Differs (gainPart k (size-of x)) (lossPart k (size-of x)) (over 7 268435456) (sub binary64 pF nF)
+  pub between : Differs (plusPart k (size-of x)) (minusPart k (size-of x)) (over 7 268435456) (sub binary64 pF nF)
   between =
-      differs-weaken (gainPart k (size-of x)) (lossPart k (size-of x)) (plusQ (plusQ rounded cut-off) cut-off) (gain-pos (size-of x) (den-pos x) k) (loss-pos (size-of x) (den-pos x) k) (lit< tt) (over 7 268435456) (sub binary64 pF nF) (lit< tt) (lit≤ tt)
-      (differs-from pC nC rounded pC-pos nC-pos (lit< tt) (gainPart k (size-of x)) (lossPart k (size-of x)) cut-off (sub binary64 pF nF) (gain-pos (size-of x) (den-pos x) k) (loss-pos (size-of x) (den-pos x) k) (lit< tt) p-rest (more-than pC (gainPart k (size-of x)) pC-most) n-rest (more-than nC (lossPart k (size-of x)) nC-most) short)
+      differs-weaken (plusPart k (size-of x)) (minusPart k (size-of x)) (plusQ (plusQ rounded cut-off) cut-off) (plusPart-pos (size-of x) (den-pos x) k) (minusPart-pos (size-of x) (den-pos x) k) (lit< tt) (over 7 268435456) (sub binary64 pF nF) (lit< tt) (lit≤ tt)
+      (differs-from pC nC rounded pC-pos nC-pos (lit< tt) (plusPart k (size-of x)) (minusPart k (size-of x)) cut-off (sub binary64 pF nF) (plusPart-pos (size-of x) (den-pos x) k) (minusPart-pos (size-of x) (den-pos x) k) (lit< tt) p-rest (more-than pC (plusPart k (size-of x)) pC-most) n-rest (more-than nC (minusPart k (size-of x)) nC-most) short)

@@ -1,4 +1,4 @@
-use mathlib.Core.Path.{_≡_, sym, subst, ap₂, _∙_}
+use mathlib.Core.Path.{sym, subst, ap₂, _∙_}
 use mathlib.Core.Bool.{not}
 use borrow.Author.Needs.{needs}
 use lib.Dec.{T}
@@ -7,7 +7,7 @@ use lib.Ieee.Fits.{fits-widens, and-i}
 use Rattle.exact.specs.Narrow.{narrowed}
 use Rattle.elementary.specs.Trigonometric.{Cosine}
 use Rattle.elementary.proofs.Trigonometry.{second}
-use Rattle.elementary.proofs.SineCosine.{cosine-core, cosine-nearby}
+use Rattle.elementary.proofs.SineCosine.{cosine-core, cosine-absolute}
 use Rattle.elementary.proofs.FromZero.{above-range, below-range, argument, no-nan, at-argument, at-none, cosine-low}
 use Rattle.elementary.proofs.trig.cos.Statement.{statement}
 use Rattle.elementary.proofs.trig.cos.Tie as tie
@@ -26,11 +26,11 @@ float-to-float-y c =
     let x = s .args .x in
     and-i (fits binary64 x) (not (isNan x)) (fits-widens x (held s)) (no-nan x (argument x (c .before .before .if1 .left) (subst T (sym (c .before .if2 .taken)) tt)))
 
-cosine-gain-requires : tie.Need-cosine-gain-requires
-cosine-gain-requires c κs = search needs
+cosine-plus-requires : tie.Need-cosine-plus-requires
+cosine-plus-requires c κs = search needs
 
-cosine-loss-requires : tie.Need-cosine-loss-requires
-cosine-loss-requires c κs = search needs
+cosine-minus-requires : tie.Need-cosine-minus-requires
+cosine-minus-requires c κs = search needs
 
 narrow-requires : tie.Need-narrow-requires
 narrow-requires c κs = search needs
@@ -41,8 +41,8 @@ returns-2 c =
     let k = c .before .before .before .before in
     let x = k .before .before .args .x in
     let S = argument x (k .before .if1 .left) (subst T (sym (k .if2 .taken)) tt) in
-    subst (λ (r : Float). Cosine x r) (sym (c .narrow .ensures ∙ ap₂ (λ (a b : Float). narrowed (sub binary64 a (mul binary64 (second x) b))) (c .before .before .cosine-gain .ensures) (c .before .cosine-loss .ensures)))
-    (at-argument 0 x (narrowed (cosine-core x)) S (cosine-nearby x S))
+    subst (λ (r : Float). Cosine x r) (sym (c .narrow .ensures ∙ ap₂ (λ (a b : Float). narrowed (sub binary64 a (mul binary64 (second x) b))) (c .before .before .cosine-plus .ensures) (c .before .cosine-minus .ensures)))
+    (at-argument 0 x (narrowed (cosine-core x)) S (cosine-absolute x S))
 
 returns-3 : tie.Need-returns-3
 unfolding ofBits
@@ -58,8 +58,8 @@ cos-spec =
     (tie.spec
     returns
     float-to-float-y
-    cosine-gain-requires
-    cosine-loss-requires
+    cosine-plus-requires
+    cosine-minus-requires
     narrow-requires
     returns-2
     returns-3

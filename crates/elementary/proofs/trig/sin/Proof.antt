@@ -1,4 +1,4 @@
-use mathlib.Core.Path.{_≡_, sym, subst, ap, ap₂, refl, _∙_}
+use mathlib.Core.Path.{sym, subst, ap₂, _∙_}
 use mathlib.Core.Bool.{not}
 use borrow.Author.Needs.{needs}
 use lib.Dec.{T}
@@ -6,9 +6,9 @@ use lib.Ieee.{Float, fits, binary32, binary64, ofBits, div, isNan, mul, sub}
 use lib.Ieee.Fits.{fits-widens, and-i}
 use Rattle.exact.specs.Narrow.{narrowed}
 use Rattle.elementary.specs.Trigonometric.{Sine}
-use Rattle.elementary.proofs.Trigonometry.{Argument, second, fourth}
-use Rattle.elementary.proofs.SineCosine.{sine-core, sine-nearby}
-use Rattle.elementary.proofs.SinePart.{sine-part}
+use Rattle.elementary.proofs.Trigonometry.{second}
+use Rattle.elementary.proofs.SineCosine.{sine-core, sine-absolute}
+use Rattle.elementary.proofs.SineRelative.{sine-relative}
 use Rattle.elementary.proofs.FromZero.{above-range, below-range, argument, no-nan, up-to, at-argument, no-sine, sine-low}
 use Rattle.elementary.proofs.trig.sin.Statement.{statement}
 use Rattle.elementary.proofs.trig.sin.Tie as tie
@@ -27,11 +27,11 @@ float-to-float-y c =
     let x = s .args .x in
     and-i (fits binary64 x) (not (isNan x)) (fits-widens x (held s)) (no-nan x (argument x (c .before .before .if1 .left) (subst T (sym (c .before .if2 .taken)) tt)))
 
-sine-gain-requires : tie.Need-sine-gain-requires
-sine-gain-requires c κs = search needs
+sine-plus-requires : tie.Need-sine-plus-requires
+sine-plus-requires c κs = search needs
 
-sine-loss-requires : tie.Need-sine-loss-requires
-sine-loss-requires c κs = search needs
+sine-minus-requires : tie.Need-sine-minus-requires
+sine-minus-requires c κs = search needs
 
 narrow-requires : tie.Need-narrow-requires
 narrow-requires c κs = search needs
@@ -42,8 +42,8 @@ returns-2 c =
     let k = c .before .before .before .before in
     let x = k .before .before .args .x in
     let S = argument x (k .before .if1 .left) (subst T (sym (k .if2 .taken)) tt) in
-    subst (λ (r : Float). Sine x r) (sym (c .narrow .ensures ∙ ap₂ (λ (a b : Float). narrowed (mul binary64 x (sub binary64 a (mul binary64 (second x) b)))) (c .before .before .sine-gain .ensures) (c .before .sine-loss .ensures)))
-    (record { series = at-argument 1 x (narrowed (mul binary64 x (sine-core x))) S (sine-nearby x S); part = λ h. sine-part x S (up-to x S h) })
+    subst (λ (r : Float). Sine x r) (sym (c .narrow .ensures ∙ ap₂ (λ (a b : Float). narrowed (mul binary64 x (sub binary64 a (mul binary64 (second x) b)))) (c .before .before .sine-plus .ensures) (c .before .sine-minus .ensures)))
+    (record { series = at-argument 1 x (narrowed (mul binary64 x (sine-core x))) S (sine-absolute x S); part = λ h. sine-relative x S (up-to x S h) })
 
 returns-3 : tie.Need-returns-3
 unfolding ofBits
@@ -59,8 +59,8 @@ sin-spec =
     (tie.spec
     returns
     float-to-float-y
-    sine-gain-requires
-    sine-loss-requires
+    sine-plus-requires
+    sine-minus-requires
     narrow-requires
     returns-2
     returns-3

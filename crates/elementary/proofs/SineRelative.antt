@@ -1,13 +1,13 @@
 -- The sine up to 1.5, within a part of itself; and both functions below 2 ^ -12. Assumes nothing.
-use mathlib.Core.Path.{_≡_, refl, sym, ap, ap₂, _∙_, subst, subst₂}
-use mathlib.Core.Logic.{_⊎_, inl, inr}
-use Prim.Native.Nat.{ℕ, zero, suc, _+_, _-_, _*_, _/_, _^_, _≤_, _<_}
-use native.Mathlib.Nat.{le-refl, le-trans, le-of-eq, le-of-lt, mul-pos, mul-comm, mul-assoc, mul-left-comm, mul-le-mul-right, mul-le-mul-left, mul-le-mul, le-of-mul-le-mul-right, zero-mul}
+use mathlib.Core.Path.{_≡_, refl, sym, ap, _∙_, subst}
+use mathlib.Core.Logic.{inr}
+use Prim.Native.Nat.{ℕ, _+_, _-_, _*_, _^_, _≤_, _<_}
+use native.Mathlib.Nat.{le-refl, le-trans, le-of-eq, le-of-lt, mul-pos, mul-left-comm, mul-le-mul-right, mul-le-mul-left, mul-le-mul, zero-mul}
 use native.Mathlib.Omega.{arith}
 use mathlib.Core.Bool.{Bool, true, false}
 use lib.Dec.{T, lit≤, lit<}
 use lib.IntN.{ℤ, pos}
-use lib.Ieee.{Float, nan, inf, fin, binary32, binary64, mul, sub, up, down, round}
+use lib.Ieee.{Float, nan, inf, fin, binary32, binary64, mul, up, down, round}
 use lib.Ieee.Fits.{down-pos}
 use lib.Ieee.Positive.{num, den, den-pos}
 use Rattle.exact.specs.Value.{plus}
@@ -16,30 +16,24 @@ use Rattle.exact.proofs.Narrowing.{narrowed-plus}
 use Rattle.elementary.specs.Fraction.{Within, Frac, plusQ, timesQ, hornerQ, LeQ, over, oneQ}
 use Rattle.elementary.specs.Kernel.{one}
 use Rattle.elementary.specs.Near.{Near, upper, lower}
-use Rattle.elementary.specs.Trigonometric.{gain, loss, terms, Nearby, Parted, sixth, sineGains, sineLosses}
+use Rattle.elementary.specs.Trigonometric.{plusTerms, minusTerms, terms, Absolute, Relative, bound, more, less, overSix, sinePlus, sineMinus}
 use Rattle.elementary.proofs.Ratio.{within-refl, within-trans, within-weaken}
 use Rattle.elementary.proofs.Operations.{Range, round-within, mul-near}
 use Rattle.elementary.proofs.Horner.{fine, range-of}
 use Rattle.elementary.proofs.Powers.{fine32, near-least, near-most}
-use Rattle.elementary.proofs.Truncation.{leQ-trans, leQ-refl, plus-mono, times-mono, horner-mono, least-one}
+use Rattle.elementary.proofs.Truncation.{leQ-trans, leQ-refl, plus-mono, times-mono, least-one}
 use Rattle.elementary.proofs.Difference.{exact}
-use Rattle.elementary.proofs.Signed.{Differs, size-of, by-eq, plus-zero, plus-comm, plus-assoc, plus-right-comm, plus-cancel, times-in, times-out}
-use Rattle.elementary.proofs.Terms.{inv, every4, sq, gainPart, lossPart, gain-pos, loss-pos, terms-pos, terms-mono, gain-mono, loss-mono, gain-to, gain-from, loss-to, loss-from, one-power}
+use Rattle.elementary.proofs.Signed.{Differs, size-of, by-eq, plus-comm, plus-assoc, plus-right-comm, plus-cancel, times-in, times-out}
+use Rattle.elementary.proofs.Terms.{inv, every4, sq, plusPart, minusPart, plusPart-pos, minusPart-pos, terms-pos, terms-mono, plusPart-mono, minusPart-mono, plusTerms-to, plusTerms-from, minusTerms-to, minusTerms-from, one-power}
 use Rattle.elementary.proofs.Trigonometry.{Argument, p-eight}
 use Rattle.elementary.proofs.SineCosine.{sine-core, sine-between, product-under, sine-pair}
 
 -- ---- a part of s, where s is p - n
-abbrev more : Frac
-more = over 4194305 4194304
-
-abbrev less : Frac
-less = over 4194303 4194304
-
-parted-of : (s p n : Frac) (r : Float) → 0 < s .bot → 0 < p .bot → 0 < n .bot → T (plus r) → LeQ (plusQ s n) p → LeQ p (plusQ s n) → Within 4194305 4194304 (num r) (den r) (s .top) (s .bot) → Parted p n r
-parted-of s p n nan S P N t h k w = absurd t
-parted-of s p n (inf u) S P N t h k w = absurd t
-parted-of s p n (fin true m e) S P N t h k w = absurd t
-parted-of s p n (fin false m e) S P N t h k w =
+relative-of : (s p n : Frac) (r : Float) → 0 < s .bot → 0 < p .bot → 0 < n .bot → T (plus r) → LeQ (plusQ s n) p → LeQ p (plusQ s n) → Within 4194305 4194304 (num r) (den r) (s .top) (s .bot) → Relative p n r
+relative-of s p n nan S P N t h k w = absurd t
+relative-of s p n (inf u) S P N t h k w = absurd t
+relative-of s p n (fin true m e) S P N t h k w = absurd t
+relative-of s p n (fin false m e) S P N t h k w =
     let r = over (m * up e) (down e) in
     record {
       most =
@@ -59,10 +53,10 @@ parted-of s p n (fin false m e) S P N t h k w =
     down-part r d a c h = omega arith
 
 -- ---- where p is at most 1, a part of p - n is at most that part of 1
-nearby-parted : (p n : Frac) (r : Float) → 0 < p .bot → 0 < n .bot → LeQ p oneQ → Parted p n r → Nearby p n r
-nearby-parted p n nan P N h a = absurd (a .most)
-nearby-parted p n (inf s) P N h a = absurd (a .most)
-nearby-parted p n (fin s m e) P N h a = go s a
+absolute-relative : (p n : Frac) (r : Float) → 0 < p .bot → 0 < n .bot → LeQ p oneQ → Relative p n r → Absolute p n r
+absolute-relative p n nan P N h a = absurd (a .most)
+absolute-relative p n (inf s) P N h a = absurd (a .most)
+absolute-relative p n (fin s m e) P N h a = go s a
   where
     grows : LeQ n (timesQ more n)
     grows = omega arith
@@ -70,22 +64,22 @@ nearby-parted p n (fin s m e) P N h a = go s a
     shrinks : LeQ (timesQ less n) n
     shrinks = omega arith
 
-    above-p : LeQ (timesQ more p) (plusQ p (over 1 4194304))
+    above-p : LeQ (timesQ more p) (plusQ p bound)
     above-p = wide (p .top) (p .bot) h
       where
         wide : (a b : ℕ) → a * 1 ≤ 1 * b → 4194305 * a * (b * 4194304) ≤ (a * 4194304 + 1 * b) * (4194304 * b)
         wide a b h = omega (arith, mul-le-mul-right b h)
 
-    below-p : LeQ p (plusQ (timesQ less p) (over 1 4194304))
+    below-p : LeQ p (plusQ (timesQ less p) bound)
     below-p = wide (p .top) (p .bot) h
       where
         wide : (a b : ℕ) → a * 1 ≤ 1 * b → a * (4194304 * b * 4194304) ≤ (4194303 * a * 4194304 + 1 * (4194304 * b)) * b
         wide a b h = omega (arith, mul-le-mul-right b h)
 
-    go : (s : Bool) → Parted p n (fin s m e) → Nearby p n (fin s m e)
+    go : (s : Bool) → Relative p n (fin s m e) → Absolute p n (fin s m e)
     go false a =
         let r = over (m * up e) (down e) in
-        let d = over 1 4194304 in
+        let d = bound in
         record {
           most =
               leQ-trans (plusQ r n) (plusQ r (timesQ more n)) (plusQ p d) (mul-pos (down-pos e) (mul-pos {m = 4194304} (lit< tt) N)) (plus-mono r r n (timesQ more n) (leQ-refl r) grows)
@@ -96,7 +90,7 @@ nearby-parted p n (fin s m e) P N h a = go s a
         }
     go true a =
         let r = over (m * up e) (down e) in
-        let d = over 1 4194304 in
+        let d = bound in
         record {
           most =
               leQ-trans n (timesQ more n) (plusQ r (plusQ p d)) (mul-pos {m = 4194304} (lit< tt) N) grows
@@ -112,19 +106,19 @@ module _ (x : Float) where
   X = size-of x
 
   abbrev p : Frac
-  p = gainPart 1 X
+  p = plusPart 1 X
 
   abbrev n : Frac
-  n = lossPart 1 X
+  n = minusPart 1 X
 
   abbrev g : Frac
   g = over (p .top * n .bot - n .top * p .bot) (p .bot * n .bot)
 
   P : 0 < p .bot
-  P = gain-pos X (den-pos x) 1
+  P = plusPart-pos X (den-pos x) 1
 
   N : 0 < n .bot
-  N = loss-pos X (den-pos x) 1
+  N = minusPart-pos X (den-pos x) 1
 
   G : 0 < g .bot
   G = mul-pos P N
@@ -141,21 +135,21 @@ module _ (x : Float) where
     g-over = exact (p .top) (p .bot) (n .top) (n .bot) h .1
 
     -- x times it is the series
-    sine-under : LeQ (plusQ (timesQ X g) (loss 1 X)) (gain 1 X)
+    sine-under : LeQ (plusQ (timesQ X g) (minusTerms 1 X)) (plusTerms 1 X)
     sine-under =
-        leQ-trans (plusQ (timesQ X g) (loss 1 X)) (plusQ (timesQ X g) (timesQ X n)) (gain 1 X) (mul-pos (mul-pos (den-pos x) G) (mul-pos (den-pos x) N)) (plus-mono (timesQ X g) (timesQ X g) (loss 1 X) (timesQ X n) (leQ-refl (timesQ X g)) (by-eq refl (sym (one-power X (den-pos x) n)) (loss-to X (den-pos x) 1)))
-        (leQ-trans (plusQ (timesQ X g) (timesQ X n)) (timesQ X (plusQ g n)) (gain 1 X) (mul-pos (den-pos x) (mul-pos G N)) (times-in X g n)
-        (leQ-trans (timesQ X (plusQ g n)) (timesQ X p) (gain 1 X) (mul-pos (den-pos x) P) (times-mono X X (plusQ g n) p (leQ-refl X) g-under) (by-eq (sym (one-power X (den-pos x) p)) refl (gain-from X (den-pos x) 1))))
+        leQ-trans (plusQ (timesQ X g) (minusTerms 1 X)) (plusQ (timesQ X g) (timesQ X n)) (plusTerms 1 X) (mul-pos (mul-pos (den-pos x) G) (mul-pos (den-pos x) N)) (plus-mono (timesQ X g) (timesQ X g) (minusTerms 1 X) (timesQ X n) (leQ-refl (timesQ X g)) (by-eq refl (sym (one-power X (den-pos x) n)) (minusTerms-to X (den-pos x) 1)))
+        (leQ-trans (plusQ (timesQ X g) (timesQ X n)) (timesQ X (plusQ g n)) (plusTerms 1 X) (mul-pos (den-pos x) (mul-pos G N)) (times-in X g n)
+        (leQ-trans (timesQ X (plusQ g n)) (timesQ X p) (plusTerms 1 X) (mul-pos (den-pos x) P) (times-mono X X (plusQ g n) p (leQ-refl X) g-under) (by-eq (sym (one-power X (den-pos x) p)) refl (plusTerms-from X (den-pos x) 1))))
 
-    sine-over : LeQ (gain 1 X) (plusQ (timesQ X g) (loss 1 X))
+    sine-over : LeQ (plusTerms 1 X) (plusQ (timesQ X g) (minusTerms 1 X))
     sine-over =
-        leQ-trans (gain 1 X) (timesQ X p) (plusQ (timesQ X g) (loss 1 X)) (mul-pos (den-pos x) P) (by-eq refl (sym (one-power X (den-pos x) p)) (gain-to X (den-pos x) 1))
-        (leQ-trans (timesQ X p) (timesQ X (plusQ g n)) (plusQ (timesQ X g) (loss 1 X)) (mul-pos (den-pos x) (mul-pos G N)) (times-mono X X p (plusQ g n) (leQ-refl X) g-over)
-        (leQ-trans (timesQ X (plusQ g n)) (plusQ (timesQ X g) (timesQ X n)) (plusQ (timesQ X g) (loss 1 X)) (mul-pos (mul-pos (den-pos x) G) (mul-pos (den-pos x) N)) (times-out X g n)
-        (plus-mono (timesQ X g) (timesQ X g) (timesQ X n) (loss 1 X) (leQ-refl (timesQ X g)) (by-eq (sym (one-power X (den-pos x) n)) refl (loss-from X (den-pos x) 1)))))
+        leQ-trans (plusTerms 1 X) (timesQ X p) (plusQ (timesQ X g) (minusTerms 1 X)) (mul-pos (den-pos x) P) (by-eq refl (sym (one-power X (den-pos x) p)) (plusTerms-to X (den-pos x) 1))
+        (leQ-trans (timesQ X p) (timesQ X (plusQ g n)) (plusQ (timesQ X g) (minusTerms 1 X)) (mul-pos (den-pos x) (mul-pos G N)) (times-mono X X p (plusQ g n) (leQ-refl X) g-over)
+        (leQ-trans (timesQ X (plusQ g n)) (plusQ (timesQ X g) (timesQ X n)) (plusQ (timesQ X g) (minusTerms 1 X)) (mul-pos (mul-pos (den-pos x) G) (mul-pos (den-pos x) N)) (times-out X g n)
+        (plus-mono (timesQ X g) (timesQ X g) (timesQ X n) (minusTerms 1 X) (leQ-refl (timesQ X g)) (by-eq (sym (one-power X (den-pos x) n)) refl (minusTerms-from X (den-pos x) 1)))))
 
-    sine-parted : (r : Float) → T (plus r) → Within 4194305 4194304 (num r) (den r) (timesQ X g .top) (timesQ X g .bot) → Parted (gain 1 X) (loss 1 X) r
-    sine-parted r t w = parted-of (timesQ X g) (gain 1 X) (loss 1 X) r (mul-pos (den-pos x) G) (terms-pos 1 8 X (den-pos x)) (terms-pos 3 8 X (den-pos x)) t sine-under sine-over w
+    series-relative : (r : Float) → T (plus r) → Within 4194305 4194304 (num r) (den r) (timesQ X g .top) (timesQ X g .bot) → Relative (plusTerms 1 X) (minusTerms 1 X) r
+    series-relative r t w = relative-of (timesQ X g) (plusTerms 1 X) (minusTerms 1 X) r (mul-pos (den-pos x) G) (terms-pos 1 8 X (den-pos x)) (terms-pos 3 8 X (den-pos x)) t sine-under sine-over w
 
 -- ---- up to 1.5
 near-product : (a b c d s t : ℕ) → b ≤ a * s → d ≤ c * t → b * d ≤ a * c * (s * t)
@@ -167,7 +161,7 @@ far-product a b c d s t h k = omega (arith, mul-le-mul h k)
 module _ (x : Float) (S : Argument x) (h : 2 * num x ≤ 3 * den x) where
   n-most : LeQ (n x) (over 1 2)
   unfolding every4 hornerQ
-  n-most = leQ-trans (n x) (lossPart 1 (over 3 2)) (over 1 2) (lit< tt) (loss-mono 1 (X x) (over 3 2) (turn (num x) (den x) h)) (lit≤ tt)
+  n-most = leQ-trans (n x) (minusPart 1 (over 3 2)) (over 1 2) (lit< tt) (minusPart-mono 1 (X x) (over 3 2) (turn (num x) (den x) h)) (lit≤ tt)
     where
       turn : (n d : ℕ) → 2 * n ≤ 3 * d → n * 2 ≤ 3 * d
       turn n d h = omega arith
@@ -227,7 +221,7 @@ module _ (x : Float) (S : Argument x) (h : 2 * num x ≤ 3 * den x) where
       flat a b h = omega arith
 
   g-ceiling : g x .top ≤ g x .bot * 8
-  g-ceiling = flat (g x .top) (g x .bot) (leQ-trans (g x) (p x) (over 8 1) (P x) (leQ-trans (g x) (plusQ (g x) (n x)) (p x) (mul-pos (G x) (N x)) (more-on (g x) (n x)) (g-under x in-order)) (p-eight 1 one sineGains sixth sineLosses sine-pair x S))
+  g-ceiling = flat (g x .top) (g x .bot) (leQ-trans (g x) (p x) (over 8 1) (P x) (leQ-trans (g x) (plusQ (g x) (n x)) (p x) (mul-pos (G x) (N x)) (more-on (g x) (n x)) (g-under x in-order)) (p-eight 1 one sinePlus overSix sineMinus sine-pair x S))
     where
       flat : (a b : ℕ) → a * 1 ≤ 8 * b → a ≤ b * 8
       flat a b h = omega arith
@@ -259,12 +253,12 @@ module _ (x : Float) (S : Argument x) (h : 2 * num x ≤ 3 * den x) where
       four : (n d : ℕ) → 5 * n ≤ 16 * d → n ≤ d * 4
       four n d h = omega arith
 
-  pub sine-part : Parted (gain 1 (X x)) (loss 1 (X x)) (narrowed y)
-  sine-part =
+  pub sine-relative : Relative (plusTerms 1 (X x)) (minusTerms 1 (X x)) (narrowed y)
+  sine-relative =
       let r = round binary32 false (num y) (den y) in
       let w = round-within binary32 4194304 8388607 (num y) (den y) fine32 (den-pos y) y-range in
-      subst (λ (z : Float). Parted (gain 1 (X x)) (loss 1 (X x)) z) (sym (narrowed-plus y (y-near .sign)))
-      (sine-parted x in-order r (w .0)
+      subst (λ (z : Float). Relative (plusTerms 1 (X x)) (minusTerms 1 (X x)) z) (sym (narrowed-plus y (y-near .sign)))
+      (series-relative x in-order r (w .0)
       (within-weaken (8388608 * (upper * (1 * 134217728))) (8388607 * (lower * (1 * 134217721))) 4194305 4194304 (num r) (den r) (num x * g x .top) (den x * g x .bot) (lit< tt) (lit≤ tt)
       (within-trans 8388608 8388607 (upper * (1 * 134217728)) (lower * (1 * 134217721)) (num r) (den r) (num y) (den y) (num x * g x .top) (den x * g x .bot) (den-pos y) (w .1) (y-near .within))))
 
@@ -278,21 +272,21 @@ module _ (x : Float) (s : T (plus x)) (h : 4096 * num x ≤ den x) where
 
   n-small : LeQ (n x) (over 1 4194305)
   unfolding every4 hornerQ
-  n-small = leQ-trans (n x) (lossPart 1 (over 1 4096)) (over 1 4194305) (lit< tt) (loss-mono 1 (X x) (over 1 4096) few) (lit≤ tt)
+  n-small = leQ-trans (n x) (minusPart 1 (over 1 4096)) (over 1 4194305) (lit< tt) (minusPart-mono 1 (X x) (over 1 4096) few) (lit≤ tt)
 
   p-small : LeQ (p x) (over 4194305 4194304)
   unfolding every4 hornerQ
-  p-small = leQ-trans (p x) (gainPart 1 (over 1 4096)) (over 4194305 4194304) (lit< tt) (gain-mono 1 (X x) (over 1 4096) few) (lit≤ tt)
+  p-small = leQ-trans (p x) (plusPart 1 (over 1 4096)) (over 4194305 4194304) (lit< tt) (plusPart-mono 1 (X x) (over 1 4096) few) (lit≤ tt)
 
   ordered : LeQ (n x) (p x)
   ordered = leQ-trans (n x) oneQ (p x) (lit< tt) (leQ-trans (n x) (over 1 4194305) oneQ (lit< tt) n-small (lit≤ tt)) (p-least x)
 
-  gain-small : LeQ (gain 1 (X x)) oneQ
+  plusTerms-small : LeQ (plusTerms 1 (X x)) oneQ
   unfolding terms
-  gain-small = leQ-trans (gain 1 (X x)) (terms 1 8 (over 1 4096)) oneQ (lit< tt) (terms-mono 1 8 (X x) (over 1 4096) few) (lit≤ tt)
+  plusTerms-small = leQ-trans (plusTerms 1 (X x)) (terms 1 8 (over 1 4096)) oneQ (lit< tt) (terms-mono 1 8 (X x) (over 1 4096) few) (lit≤ tt)
 
-  pub small-part : Parted (gain 1 (X x)) (loss 1 (X x)) x
-  small-part = sine-parted x ordered x s (
+  pub small-relative : Relative (plusTerms 1 (X x)) (minusTerms 1 (X x)) x
+  small-relative = series-relative x ordered x s (
     scaled (num x) (den x) (g x .top) (g x .bot) (at-least (g x .top) (g x .bot) (leQ-trans oneQ (p x) (plusQ (g x) (over 1 4194305)) (P x) (p-least x) (leQ-trans (p x) (plusQ (g x) (n x)) (plusQ (g x) (over 1 4194305)) (mul-pos (G x) (N x)) (g-over x ordered) (plus-mono (g x) (g x) (n x) (over 1 4194305) (leQ-refl (g x)) n-small)))),
     scaled' (num x) (den x) (g x .top) (g x .bot) (leQ-trans (g x) (p x) (over 4194305 4194304) (P x) (leQ-trans (g x) (plusQ (g x) (n x)) (p x) (mul-pos (G x) (N x)) (more-on (g x) (n x)) (g-under x ordered)) p-small),
   )
@@ -309,16 +303,16 @@ module _ (x : Float) (s : T (plus x)) (h : 4096 * num x ≤ den x) where
       more-on : (a b : Frac) → LeQ a (plusQ a b)
       more-on a b = omega arith
 
-  pub small-nearby : Nearby (gain 1 (X x)) (loss 1 (X x)) x
-  small-nearby = nearby-parted (gain 1 (X x)) (loss 1 (X x)) x (terms-pos 1 8 (X x) (den-pos x)) (terms-pos 3 8 (X x) (den-pos x)) gain-small small-part
+  pub small-absolute : Absolute (plusTerms 1 (X x)) (minusTerms 1 (X x)) x
+  small-absolute = absolute-relative (plusTerms 1 (X x)) (minusTerms 1 (X x)) x (terms-pos 1 8 (X x) (den-pos x)) (terms-pos 3 8 (X x) (den-pos x)) plusTerms-small small-relative
 
 -- ---- and the cosine is 1
-pub cosine-small : (x : Float) → 4096 * num x ≤ den x → Nearby (gain 0 (X x)) (loss 0 (X x)) (fin false 1 (pos 0))
+pub cosine-small : (x : Float) → 4096 * num x ≤ den x → Absolute (plusTerms 0 (X x)) (minusTerms 0 (X x)) (fin false 1 (pos 0))
 unfolding terms
 cosine-small x h =
-    let q = gain 0 (X x) in
-    let l = loss 0 (X x) in
-    let d = over 1 4194304 in
+    let q = plusTerms 0 (X x) in
+    let l = minusTerms 0 (X x) in
+    let d = bound in
     let f : LeQ (X x) (over 1 4096) = turn (num x) (den x) h in
     record {
       most = plus-mono oneQ q l d (leQ-trans oneQ (terms 0 8 (over 0 1)) q (lit< tt) (lit≤ tt) (terms-mono 0 8 (over 0 1) (X x) (nothing (num x) (den x)))) (leQ-trans l (terms 2 8 (over 1 4096)) d (lit< tt) (terms-mono 2 8 (X x) (over 1 4096) f) (lit≤ tt));
@@ -346,24 +340,24 @@ vanished k x z h = none (terms k 8 (X x) .top) (terms k 8 (X x) .bot) (leQ-trans
 nothing-le : (a b : Frac) → a .top ≡ 0 → LeQ a b
 nothing-le a b e = omega (arith, ap (λ (z : ℕ). z * b .bot) e)
 
-pub zero-part : (m : ℕ) (e : ℤ) → m ≡ 0 → Parted (gain 1 (X (fin true m e))) (loss 1 (X (fin true m e))) (fin true m e)
+pub zero-relative : (m : ℕ) (e : ℤ) → m ≡ 0 → Relative (plusTerms 1 (X (fin true m e))) (minusTerms 1 (X (fin true m e))) (fin true m e)
 unfolding terms
-zero-part m e z =
+zero-relative m e z =
     let x = fin true m e in
     let Z : m * up e ≡ 0 = ap (λ (y : ℕ). y * up e) z ∙ zero-mul (up e) in
     let A = vanished 1 x Z (lit≤ tt) in
     let B = vanished 3 x Z (lit≤ tt) in
     record {
-      most = nothing-le (timesQ more (loss 1 (X x))) (plusQ (X x) (timesQ more (gain 1 (X x)))) (ap (λ (y : ℕ). 4194305 * y) B);
-      least = nothing-le (plusQ (X x) (timesQ less (gain 1 (X x)))) (timesQ less (loss 1 (X x))) (both (m * up e) (4194303 * gain 1 (X x) .top) (4194304 * gain 1 (X x) .bot) (down e) Z (ap (λ (y : ℕ). 4194303 * y) A));
+      most = nothing-le (timesQ more (minusTerms 1 (X x))) (plusQ (X x) (timesQ more (plusTerms 1 (X x)))) (ap (λ (y : ℕ). 4194305 * y) B);
+      least = nothing-le (plusQ (X x) (timesQ less (plusTerms 1 (X x)))) (timesQ less (minusTerms 1 (X x))) (both (m * up e) (4194303 * plusTerms 1 (X x) .top) (4194304 * plusTerms 1 (X x) .bot) (down e) Z (ap (λ (y : ℕ). 4194303 * y) A));
     }
   where
     both : (a b c d : ℕ) → a ≡ 0 → b ≡ 0 → a * c + b * d ≡ 0
     both a b c d p q = omega (arith, ap (λ (z : ℕ). z * c) p, ap (λ (z : ℕ). z * d) q)
 
-pub zero-nearby : (m : ℕ) (e : ℤ) → m ≡ 0 → Nearby (gain 1 (X (fin true m e))) (loss 1 (X (fin true m e))) (fin true m e)
+pub zero-absolute : (m : ℕ) (e : ℤ) → m ≡ 0 → Absolute (plusTerms 1 (X (fin true m e))) (minusTerms 1 (X (fin true m e))) (fin true m e)
 unfolding terms
-zero-nearby m e z =
+zero-absolute m e z =
     let x = fin true m e in
     let Z : m * up e ≡ 0 = ap (λ (y : ℕ). y * up e) z ∙ zero-mul (up e) in
-    nearby-parted (gain 1 (X x)) (loss 1 (X x)) x (terms-pos 1 8 (X x) (down-pos e)) (terms-pos 3 8 (X x) (down-pos e)) (nothing-le (gain 1 (X x)) oneQ (vanished 1 x Z (lit≤ tt))) (zero-part m e z)
+    absolute-relative (plusTerms 1 (X x)) (minusTerms 1 (X x)) x (terms-pos 1 8 (X x) (down-pos e)) (terms-pos 3 8 (X x) (down-pos e)) (nothing-le (plusTerms 1 (X x)) oneQ (vanished 1 x Z (lit≤ tt))) (zero-relative m e z)
