@@ -19,5 +19,10 @@ pub mod Difference
 pub mod Digits
 pub mod Shift
 pub mod ExpFn
-pub mod Trig
 pub mod HalfDifference
+pub mod Trigonometry
+pub mod SineCosine
+pub mod SineRelative
+pub mod FromZero
+pub mod Signed
+pub mod Terms

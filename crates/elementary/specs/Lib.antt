@@ -5,4 +5,5 @@ pub mod Near
 pub mod Promise
 pub mod Hyperbolic
 pub mod Logarithm
+pub mod Trigonometric
 pub mod Functions

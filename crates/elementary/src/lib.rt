@@ -2,3 +2,4 @@
 pub mod hyperbolic;
 pub mod log;
 pub mod power;
+pub mod trig;

@@ -1,0 +1,67 @@
+use mathlib.Core.Path.{sym, subst, ap₂, _∙_}
+use mathlib.Core.Bool.{not}
+use borrow.Author.Needs.{needs}
+use lib.Dec.{T}
+use lib.Ieee.{Float, fits, binary32, binary64, ofBits, div, isNan, mul, sub}
+use lib.Ieee.Fits.{fits-widens, and-i}
+use Rattle.exact.specs.Narrow.{narrowed}
+use Rattle.elementary.specs.Trigonometric.{Sine}
+use Rattle.elementary.proofs.Trigonometry.{second}
+use Rattle.elementary.proofs.SineCosine.{sine-core, sine-absolute}
+use Rattle.elementary.proofs.SineRelative.{sine-relative}
+use Rattle.elementary.proofs.FromZero.{above-range, below-range, argument, no-nan, up-to, at-argument, no-sine, sine-low}
+use Rattle.elementary.proofs.trig.sin.Statement.{statement}
+use Rattle.elementary.proofs.trig.sin.Tie as tie
+
+held : (c : tie.Start) → T (fits binary32 (c .args .x))
+held c = subst T (sym (c .good .0 .1)) tt
+
+returns : tie.Need-returns
+unfolding ofBits div
+returns c = no-sine (c .before .args .x) (above-range (c .before .args .x) (held (c .before)) (subst T (sym (c .if1 .taken)) tt))
+
+float-to-float-y : tie.Need-float-to-float-y
+unfolding ofBits
+float-to-float-y c =
+    let s = c .before .before .before in
+    let x = s .args .x in
+    and-i (fits binary64 x) (not (isNan x)) (fits-widens x (held s)) (no-nan x (argument x (c .before .before .if1 .left) (subst T (sym (c .before .if2 .taken)) tt)))
+
+sine-plus-requires : tie.Need-sine-plus-requires
+sine-plus-requires c κs = search needs
+
+sine-minus-requires : tie.Need-sine-minus-requires
+sine-minus-requires c κs = search needs
+
+narrow-requires : tie.Need-narrow-requires
+narrow-requires c κs = search needs
+
+returns-2 : tie.Need-returns-2
+unfolding ofBits
+returns-2 c =
+    let k = c .before .before .before .before in
+    let x = k .before .before .args .x in
+    let S = argument x (k .before .if1 .left) (subst T (sym (k .if2 .taken)) tt) in
+    subst (λ (r : Float). Sine x r) (sym (c .narrow .ensures ∙ ap₂ (λ (a b : Float). narrowed (mul binary64 x (sub binary64 a (mul binary64 (second x) b)))) (c .before .before .sine-plus .ensures) (c .before .sine-minus .ensures)))
+    (record { series = at-argument 1 x (narrowed (mul binary64 x (sine-core x))) S (sine-absolute x S); part = λ h. sine-relative x S (up-to x S h) })
+
+returns-3 : tie.Need-returns-3
+unfolding ofBits
+returns-3 c = sine-low (c .before .before .before .args .x) (c .before .if2 .left) (subst T (sym (c .if3 .taken)) tt)
+
+returns-4 : tie.Need-returns-4
+unfolding ofBits div
+returns-4 c = no-sine (c .before .before .before .args .x) (below-range (c .before .before .before .args .x) (c .if3 .left))
+
+pub sin-spec : {M : Type 1} → statement M
+sin-spec =
+    tie.close
+    (tie.spec
+    returns
+    float-to-float-y
+    sine-plus-requires
+    sine-minus-requires
+    narrow-requires
+    returns-2
+    returns-3
+    returns-4)
