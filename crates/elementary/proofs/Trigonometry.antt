@@ -15,6 +15,7 @@ use Rattle.exact.specs.Value.{plus}
 use Rattle.elementary.specs.Fraction.{Within, Frac, plusQ, timesQ, hornerQ, LeQ, over}
 use Rattle.elementary.proofs.Errors.{errors, upper, lower}
 use Rattle.elementary.specs.Kernel.{hornerF}
+use Rattle.elementary.specs.Trigonometric.{second, fourth}
 use Rattle.elementary.proofs.Ratio.{within-refl, within-weaken}
 use Rattle.elementary.proofs.Operations.{Range, mul-is, round-within}
 use Rattle.elementary.proofs.Horner.{Close, Arg, Val, Coef, Coefs, horner-near, half, fine, AtLeast, AtMost, range-of, close-up, mul-close, mul-most, within-atleast}
@@ -77,15 +78,9 @@ prod-least a b c d s t h k = omega (arith, mul-le-mul h k)
 prod-most : (a b c d s t : ℕ) → a ≤ b * s → c ≤ d * t → a * c ≤ b * d * (s * t)
 prod-most a b c d s t h k = omega (arith, mul-le-mul h k)
 
--- x ^ 4 exactly, and x ^ 2 and x ^ 4 in doubles
+-- x ^ 4 exactly
 abbrev pub W : Float → Frac
 W x = sq (sq (size-of x))
-
-abbrev pub second : Float → Float
-second x = mul binary64 x x
-
-abbrev pub fourth : Float → Float
-fourth x = mul binary64 (second x) (second x)
 
 module _ (x : Float) (S : Argument x) where
   x-most : num x ≤ den x * 2 ^ 2
