@@ -15,7 +15,8 @@ use lib.Ieee.Positive.{num, den, den-pos, value→cross}
 use Rattle.exact.specs.Value.{plus}
 use Rattle.exact.proofs.Value.{value-plus}
 use Rattle.exact.proofs.Narrowing.{bits-value, bits-value0}
-use Rattle.elementary.specs.Logarithm.{Ranged, Mantissa}
+use Rattle.elementary.specs.Logarithm.{Ranged, exponentOf, mantissaOf}
+use Rattle.elementary.proofs.Root.{Mantissa}
 use Rattle.elementary.proofs.Scale.{rescale}
 
 -- ---- a finite pattern without a sign

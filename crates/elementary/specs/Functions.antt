@@ -1,9 +1,10 @@
 -- The seven as functions: which of the results that 01's rules leave open the program gives. What these are near to is in the promises;
 -- definitions of what a block holds cite these, so that they are equations to the last bit. Definitions only.
-use mathlib.Core.Bool.{false, cond}
-use lib.Ieee.{Float, nan, inf, binary32, binary64, ofBits, sub, mul, neg, lt, le, isNan}
+use mathlib.Core.Bool.{true, false, cond}
+use lib.Ieee.{Float, nan, inf, binary32, binary64, ofBits, sub, mul, neg, lt, le, eq, isNan}
 use Rattle.exact.specs.Narrow.{narrowed}
 use Rattle.elementary.specs.Kernel.{powerUp, powerDown, powerBy, zero, one}
+use Rattle.elementary.specs.Logarithm.{positiveOf}
 use Rattle.elementary.specs.Trigonometric.{sineSum, cosineSum}
 
 -- log2 e and log2 10, each to the nearest double
@@ -36,6 +37,10 @@ sinhOf x =
     cond (isNan x) nan
     (cond (lt x leastArg) nan
     (cond (lt (ofBits binary32 0x42b17217) x) (inf false) (narrowed (mul binary64 (sub binary64 (powerUp y) (powerDown y)) (ofBits binary64 0x3fe0000000000000)))))
+
+-- of a negative number and of an infinity none, of both zeros minus infinity
+unfoldable pub log2Of : Float → Float
+log2Of x = cond (isNan x) nan (cond (lt x zero) nan (cond (eq x (inf false)) nan (cond (lt zero x) (positiveOf x) (inf true))))
 
 -- the greatest single that is not above 3.2
 abbrev pub lastArg : Float

@@ -1,4 +1,4 @@
-use Rattle.elementary.proofs.Root.{whole-float, fixed-value}
+use Rattle.elementary.proofs.Root.{whole-float, fixed-is}
 use Rattle.elementary.proofs.log.fixed.Statement.{statement}
 use Rattle.elementary.proofs.log.fixed.Tie as tie
 
@@ -6,7 +6,7 @@ int-to-float-result : tie.Need-int-to-float-result
 int-to-float-result c = whole-float (c .before .args .a) (c .before .pre)
 
 returns : tie.Need-returns
-returns c = fixed-value (c .before .args .a) (c .before .pre)
+returns c = fixed-is (c .before .args .a) (c .before .pre)
 
 pub fixed-spec : {M : Type 1} → statement M
 fixed-spec = tie.close (tie.spec int-to-float-result returns)
