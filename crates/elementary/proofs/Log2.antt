@@ -12,20 +12,20 @@ use lib.Arith.{lt→nleb}
 use lib.Ieee.{Float, nan, inf, fin, binary32, binary64, round, toBits, neg, up, down, fits, isNan, lt, eq, ne}
 use lib.Ieee.Exact.{HasValue}
 use lib.Ieee.Fits.{and-l, and-r, up-pos}
-use lib.Ieee.Compare.{differs-from-itself}
 use lib.Ieee.Bits.{is-true, is-false}
 use lib.Ieee.Scale.{round-same}
 use lib.Ieee.Positive.{num, den, den-pos, value→cross}
 use Rattle.exact.specs.Value.{plus}
 use Rattle.exact.specs.Narrow.{narrowed}
 use Rattle.exact.proofs.Value.{value-plus}
-use Rattle.exact.proofs.Narrowing.{narrowed-plus}
-use Rattle.elementary.specs.Fraction.{Frac, Le, Within}
+use Rattle.exact.proofs.Narrowing.{narrowed-plus, when-nan}
+use Rattle.exact.proofs.Integrals.{no}
+use Rattle.elementary.specs.Fraction.{Frac}
 use Rattle.elementary.specs.Power.{E}
 use Rattle.elementary.specs.Logarithm.{unit, log2Parts, PartOf, Inverts, Log2, Ranged, fixedAt, fractionOf, nearestSum, exponentOf, mantissaOf, positiveOf}
 use Rattle.elementary.proofs.Root.{seriesAt, Solves, fixed-value, fraction-solves}
 use Rattle.elementary.proofs.Exponent.{digitsOf, parts, mantissa, mantissa-value}
-use Rattle.elementary.proofs.Ratio.{le-weaken, within-trans, within-same, within-sym}
+use Rattle.elementary.proofs.Ratio.{Le, Within, le-weaken, within-trans, within-same, within-sym}
 use Rattle.elementary.proofs.Operations.{Fine, round-within}
 use Rattle.elementary.proofs.Powers.{E-pos}
 use Rattle.elementary.proofs.Near.{E-scale}
@@ -235,10 +235,7 @@ positive-inverts x f r =
 
 -- ---- by the argument
 pub at-nan : (x : Float) → ne x x ≡ true → Log2 x x
-at-nan x h = go x (differs-from-itself x (subst T (sym h) tt))
-  where
-    go : (x : Float) → x ≡ nan → Log2 x x
-    go x e = subst (λ (y : Float). Log2 y y) (sym e) refl
+at-nan x h = when-nan (λ (y : Float). Log2 y y) x h refl
 
 zero-below : (u d : ℕ) → 0 < 0 * u * 1 + 0 * d → ⊥
 zero-below u d h = omega arith
@@ -296,11 +293,11 @@ zero-done nan n l i g = absurd n
 zero-done (inf false) n l i g = absurd (true≢false i)
 zero-done (inf true) n l i g = absurd (true≢false l)
 zero-done (fin s zero e) n l i g = refl
-zero-done (fin true (suc m) e) n l i g = absurd (some (suc m * up e) (down e) (mul-pos {m = suc m} (omega arith) (up-pos e)) (nltb→le 0 (suc m * up e * 1 + 0 * 1 * down e) (subst (λ (b : Bool). T (not b)) (sym l) tt)))
+zero-done (fin true (suc m) e) n l i g = absurd (some (suc m * up e) (down e) (mul-pos {m = suc m} (omega arith) (up-pos e)) (nltb→le 0 (suc m * up e * 1 + 0 * 1 * down e) (no l)))
   where
     some : (a d : ℕ) → 0 < a → a * 1 + 0 * 1 * d ≤ 0 → ⊥
     some a d h k = omega arith
-zero-done (fin false (suc m) e) n l i g = absurd (some (suc m * up e) (down e) (mul-pos {m = suc m} (omega arith) (up-pos e)) (nltb→le (0 * 1 * down e) (suc m * up e * 1) (subst (λ (b : Bool). T (not b)) (sym g) tt)))
+zero-done (fin false (suc m) e) n l i g = absurd (some (suc m * up e) (down e) (mul-pos {m = suc m} (omega arith) (up-pos e)) (nltb→le (0 * 1 * down e) (suc m * up e * 1) (no g)))
   where
     some : (a d : ℕ) → 0 < a → a * 1 ≤ 0 * 1 * d → ⊥
     some a d h k = omega arith

@@ -4,24 +4,22 @@ use mathlib.Core.Logic.{_⊎_, inl, inr}
 use Prim.Native.Nat.{ℕ, zero, suc, _+_, _-_, _*_, _/_, _%_, _^_, _≤_, _<_}
 use native.Mathlib.Nat.{le-trans, le-of-lt, lt-of-le-of-lt, mul-pos, mul-comm, mul-assoc, mul-le-mul, mul-le-mul-left, mul-le-mul-right, eq-zero-or-pos, pow-suc}
 use native.Mathlib.Omega.{arith}
-use mathlib.Core.Bool.{Bool, true, false, not, cond, _||_}
+use mathlib.Core.Bool.{Bool, true, false, cond, _||_}
 use lib.IntN.{pos}
-use lib.Dec.{T, ltb, ltb→lt, lt→ltb, nltb→le, le→leb, lit≤, lit<}
+use lib.Dec.{T, ltb, ltb→lt, lt→ltb, nltb→le, lit≤, lit<}
 use lib.Pow.{pow-pos}
-use lib.Ieee.{Float, nan, inf, fin, binary64, ofInt, ofBits, toBits, mul, lt, inFloat, isNan}
+use lib.Ieee.{Float, binary64, ofInt, ofBits, toBits, mul, lt, isNan}
 use lib.Ieee.Exact.{HasValue, round-exact}
-use lib.Ieee.Back.{round-whole}
 use lib.Ieee.Scale.{round-same}
 use lib.Ieee.Positive.{num, den, den-pos, value→cross}
 use Rattle.exact.specs.Value.{plus}
-use Rattle.exact.proofs.Value.{value-plus}
-use Rattle.elementary.specs.Fraction.{Frac, Le, Within, over}
-use Rattle.elementary.specs.Near.{Near}
+use Rattle.exact.proofs.Value.{value-plus, lt-plus}
+use Rattle.exact.proofs.Integrals.{yes, no, whole-of}
+use Rattle.elementary.specs.Fraction.{Frac, over}
 use Rattle.elementary.proofs.Errors.{upper, lower, errors, rest}
 use Rattle.elementary.specs.Power.{series}
-use Rattle.elementary.specs.Kernel.{kernel}
 use Rattle.elementary.specs.Logarithm.{unit, fixedAt, powerAt, unitsPast128, guessOf, halving, rootOf, slack, fractionOf}
-use Rattle.elementary.proofs.Ratio.{le-trans-ratio, le-weaken, within-weaken}
+use Rattle.elementary.proofs.Ratio.{Le, Within, Near, le-trans-ratio, le-weaken, within-weaken}
 use Rattle.elementary.proofs.Operations.{Range, mul-is, mul-near}
 use Rattle.elementary.proofs.Horner.{Arg, half, fine, range-of, within-atmost, within-atleast}
 use Rattle.elementary.proofs.Series.{kernel-near, series-pos, series-least, series-most, series-zero}
@@ -45,19 +43,14 @@ pub record Solves (m : Float) (k : ℕ) : Type 0 where
   pub near : Within 1048577 1048576 (seriesAt k .top) (seriesAt k .bot) (num m) (den m)
 
 -- ---- a / 2 ^ 45
-pub whole-float : (a : ℕ) → a ≤ 150 * unit → T (inFloat binary64 (pos a))
-unfolding inFloat
-whole-float a h = le→leb a (2 ^ 53) (le-trans h (lit≤ tt))
-
-whole-value : (a : ℕ) → a ≤ 150 * unit → HasValue (ofInt binary64 (pos a)) false a 1
-unfolding ofInt
-whole-value a h = round-whole binary64 false a (le-trans h (lit≤ tt))
+pub fixed-room : {a : ℕ} → a ≤ 150 * unit → a ≤ 2 ^ 53
+fixed-room h = le-trans h (lit≤ tt)
 
 pub fixed-is : (a : ℕ) → a ≤ 150 * unit → mul binary64 (ofInt binary64 (pos a)) (ofBits binary64 0x3d20000000000000) ≡ fixedAt a
 unfolding ofBits
 fixed-is a h =
     let x = ofInt binary64 (pos a) in
-    let v = whole-value a h in
+    let v = whole-of binary64 a (fixed-room h) in
     let y = ofBits binary64 0x3d20000000000000 in
     let e : num x * 1 * unit ≡ a * (den x * unit) = ap (λ (z : ℕ). z * unit) (value→cross x a 1 v) ∙ mul-assoc a (den x) unit in
     mul-is binary64 x y (value-plus x a 1 v) tt ∙ round-same binary64 false (num x * 1) (den x * unit) a unit (mul-pos (den-pos x) (lit< tt)) (lit< tt) e
@@ -102,21 +95,11 @@ power-near k h =
     }
 
 -- ---- what a comparison says
-lt-is : (x y : Float) → T (plus x) → T (plus y) → lt x y ≡ ltb (num x * den y) (num y * den x)
-unfolding lt
-lt-is nan y p q = absurd p
-lt-is (inf s) y p q = absurd p
-lt-is (fin true m e) y p q = absurd p
-lt-is (fin false m e) nan p q = absurd q
-lt-is (fin false m e) (inf t) p q = absurd q
-lt-is (fin false m e) (fin true n d) p q = absurd q
-lt-is (fin false m e) (fin false n d) p q = refl
+below : (x y : Float) → T (plus x) → T (plus y) → lt x y ≡ true → Le 1 1 (num x) (den x) (num y) (den y)
+below x y p q h = mul-le-mul-right 1 (le-of-lt (ltb→lt (num x * den y) (num y * den x) (yes (sym (lt-plus x y p q) ∙ h))))
 
-pub below : (x y : Float) → T (plus x) → T (plus y) → lt x y ≡ true → Le 1 1 (num x) (den x) (num y) (den y)
-below x y p q h = mul-le-mul-right 1 (le-of-lt (ltb→lt (num x * den y) (num y * den x) (subst T (sym h ∙ lt-is x y p q) tt)))
-
-pub not-below : (x y : Float) → T (plus x) → T (plus y) → lt x y ≡ false → Le 1 1 (num y) (den y) (num x) (den x)
-not-below x y p q h = mul-le-mul-right 1 (nltb→le (num x * den y) (num y * den x) (subst (λ (b : Bool). T (not b)) (sym h ∙ lt-is x y p q) tt))
+not-below : (x y : Float) → T (plus x) → T (plus y) → lt x y ≡ false → Le 1 1 (num y) (den y) (num x) (den x)
+not-below x y p q h = mul-le-mul-right 1 (nltb→le (num x * den y) (num y * den x) (no (sym (lt-plus x y p q) ∙ h)))
 
 -- ---- the bisection: the series at k / 2 ^ 45 is at most m, and at (k + w) / 2 ^ 45 at least m, but for one part in 2 ^ 38
 record Bracket (m : Float) (k w : ℕ) : Type 0 where

@@ -13,12 +13,11 @@ use lib.Ieee.Positive.{num, den, den-pos}
 use Rattle.exact.specs.Value.{plus}
 use Rattle.exact.specs.Narrow.{narrowed}
 use Rattle.exact.proofs.Narrowing.{narrowed-plus}
-use Rattle.elementary.specs.Fraction.{Within, Frac, plusQ, timesQ, hornerQ, LeQ, over, oneQ}
+use Rattle.elementary.specs.Fraction.{Frac, plusQ, timesQ, hornerQ, LeQ, over, oneQ}
 use Rattle.elementary.specs.Kernel.{one}
-use Rattle.elementary.specs.Near.{Near}
 use Rattle.elementary.proofs.Errors.{upper, lower}
 use Rattle.elementary.specs.Trigonometric.{plusTerms, minusTerms, terms, Absolute, Relative, bound, more, less, overSix, sinePlus, sineMinus, sineSum}
-use Rattle.elementary.proofs.Ratio.{within-refl, within-trans, within-weaken}
+use Rattle.elementary.proofs.Ratio.{Within, Near, within-refl, within-trans, within-weaken}
 use Rattle.elementary.proofs.Operations.{Range, round-within, mul-near}
 use Rattle.elementary.proofs.Horner.{fine, range-of}
 use Rattle.elementary.proofs.Powers.{fine32, near-least, near-most}

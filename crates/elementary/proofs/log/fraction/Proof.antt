@@ -1,11 +1,10 @@
-use mathlib.Core.Path.{_≡_, refl, sym, ap, ap₂, _∙_}
+use mathlib.Core.Path.{_≡_, ap, ap₂, _∙_}
 use mathlib.Core.Logic.{inl, inr}
 use mathlib.Core.Bool.{Bool, true, false, _||_}
 use native.Mathlib.Nat.{le-of-lt}
-use native.Mathlib.Omega.{arith}
 use borrow.Author.Needs.{needs}
 use lib.Ieee.{ofBits}
-use Rattle.elementary.specs.Logarithm.{unit, guessOf}
+use Rattle.elementary.specs.Logarithm.{guessOf}
 use Rattle.elementary.proofs.Root.{past-room, tested}
 use Rattle.elementary.proofs.log.fraction.Statement.{statement}
 use Rattle.elementary.proofs.log.fraction.Tie as tie

@@ -1,12 +1,10 @@
-use mathlib.Core.Path.{_≡_, refl, sym, subst}
-use mathlib.Core.Bool.{not, true, false}
+use mathlib.Core.Path.{_≡_, refl}
+use mathlib.Core.Bool.{true}
 use lib.Dec.{T}
-use lib.Ieee.{Float, fits, binary32, binary64, ofBits, neg, div, isNan, ne}
-use lib.Ieee.Bits.{is-false}
-use lib.Ieee.Compare.{differs-from-itself}
-use lib.Ieee.Fits.{fits-widens, and-i}
+use lib.Ieee.{Float, fits, binary32, ofBits, neg, div, isNan, ne}
+use lib.Ieee.Fits.{fits-widens}
+use Rattle.exact.proofs.Narrowing.{no-nan, number, when-nan, to-double}
 use Rattle.exact.proofs.Integrals.{yes}
-use Rattle.exact.proofs.Narrowing.{no-nan}
 use Rattle.elementary.specs.Functions.{log2Of}
 use Rattle.elementary.proofs.Log2.{at-nan, negative, infinite, ranged, positive-inverts, positive-done, zero-done}
 use Rattle.elementary.proofs.log.log2.Statement.{statement}
@@ -14,13 +12,10 @@ use Rattle.elementary.proofs.log.log2.Tie as tie
 
 at-nan-is : (x : Float) → ne x x ≡ true → x ≡ log2Of x
 unfolding log2Of isNan
-at-nan-is x h = subst (λ (y : Float). y ≡ log2Of y) (sym (differs-from-itself x (yes h))) refl
-
-number : (x : Float) → ne x x ≡ false → isNan x ≡ false
-number x h = is-false (isNan x) (no-nan x h)
+at-nan-is x h = when-nan (λ (y : Float). y ≡ log2Of y) x h refl
 
 held : (c : tie.Start) → T (fits binary32 (c .args .x))
-held c = subst T (sym (c .good .0 .1)) tt
+held c = yes (c .good .0 .1)
 
 returns : tie.Need-returns
 returns c = (at-nan-is (c .before .args .x) (c .if1 .taken), at-nan (c .before .args .x) (c .if1 .taken))
@@ -40,7 +35,7 @@ returns-3 c =
 float-to-float-positive : tie.Need-float-to-float-positive
 float-to-float-positive c =
     let s = c .before .before .before .before .before in
-    and-i (fits binary64 (s .args .x)) (not (isNan (s .args .x))) (fits-widens (s .args .x) (held s)) (no-nan (s .args .x) (c .before .before .before .before .if1 .left))
+    to-double (s .args .x) (held s) (no-nan (s .args .x) (c .before .before .before .before .if1 .left))
 
 positive-requires : tie.Need-positive-requires
 unfolding ofBits div

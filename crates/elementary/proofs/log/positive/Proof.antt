@@ -1,17 +1,18 @@
-use mathlib.Core.Path.{sym, subst}
 use Prim.Native.Nat.{_<_, _%_}
 use native.Mathlib.Nat.{mod-lt}
 use borrow.Author.Needs.{needs}
 use lib.Dec.{T, lit<}
 use lib.Ieee.{fits, binary64, toBits}
+use Rattle.exact.proofs.Value.{plus-no-nan}
+use Rattle.exact.proofs.Integrals.{yes}
 use Rattle.elementary.specs.Logarithm.{positiveOf, mantissaOf}
 use Rattle.elementary.proofs.Root.{fraction-solves}
-use Rattle.elementary.proofs.Exponent.{parts, mantissa, mantissa-no-nan, plus-no-nan}
+use Rattle.elementary.proofs.Exponent.{parts, mantissa, mantissa-no-nan}
 use Rattle.elementary.proofs.log.positive.Statement.{statement}
 use Rattle.elementary.proofs.log.positive.Tie as tie
 
 held : (c : tie.Start) → T (fits binary64 (c .args .x))
-held c = subst T (sym (c .good .0 .1)) tt
+held c = yes (c .good .0 .1)
 
 digit : (c : tie.Start) → toBits binary64 (c .args .x) % 4503599627370496 < 4503599627370496
 digit c = mod-lt (toBits binary64 (c .args .x)) (lit< tt)

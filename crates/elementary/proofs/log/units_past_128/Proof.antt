@@ -1,11 +1,8 @@
-use mathlib.Core.Path.{_≡_, refl, sym, subst}
-use mathlib.Core.Bool.{true, false}
+use mathlib.Core.Path.{_≡_, refl}
+use mathlib.Core.Bool.{true}
 use borrow.Author.Needs.{needs}
 use lib.Ieee.{Float, binary64, toBits, isNan, ne}
-use lib.Ieee.Bits.{is-false}
-use lib.Ieee.Compare.{differs-from-itself}
-use Rattle.exact.proofs.Integrals.{yes}
-use Rattle.exact.proofs.Narrowing.{no-nan}
+use Rattle.exact.proofs.Narrowing.{no-nan, number, when-nan}
 use Rattle.elementary.specs.Logarithm.{unitsPast128}
 use Rattle.elementary.proofs.Root.{past-is, past-none}
 use Rattle.elementary.proofs.log.units_past_128.Statement.{statement}
@@ -13,10 +10,7 @@ use Rattle.elementary.proofs.log.units_past_128.Tie as tie
 
 at-nan : (y : Float) → ne y y ≡ true → 0 ≡ unitsPast128 y
 unfolding unitsPast128 isNan
-at-nan y h = subst (λ (x : Float). 0 ≡ unitsPast128 x) (sym (differs-from-itself y (yes h))) refl
-
-number : (y : Float) → ne y y ≡ false → isNan y ≡ false
-number y h = is-false (isNan y) (no-nan y h)
+at-nan y h = when-nan (λ (x : Float). 0 ≡ unitsPast128 x) y h refl
 
 returns : tie.Need-returns
 returns c = at-nan (c .before .args .y) (c .if1 .taken)

@@ -1,20 +1,19 @@
-use mathlib.Core.Path.{sym, subst}
-use mathlib.Core.Bool.{not}
 use borrow.Author.Needs.{needs}
 use lib.Dec.{T}
-use lib.Ieee.{fits, binary32, binary64, ofBits, div, isNan}
-use lib.Ieee.Fits.{fits-widens, and-i}
+use lib.Ieee.{fits, binary32, ofBits, div}
 use Rattle.exact.specs.Narrow.{narrowed}
+use Rattle.exact.proofs.Value.{plus-no-nan}
+use Rattle.exact.proofs.Narrowing.{to-double}
 use Rattle.exact.proofs.Integrals.{yes}
 use Rattle.elementary.specs.Trigonometric.{cosineSum}
 use Rattle.elementary.specs.Functions.{cosOf}
 use Rattle.elementary.proofs.SineCosine.{cosine-absolute}
-use Rattle.elementary.proofs.FromZero.{above-range, below-range, argument, no-nan, at-argument, at-none, cosine-low}
+use Rattle.elementary.proofs.FromZero.{above-range, below-range, argument, at-argument, at-none, cosine-low}
 use Rattle.elementary.proofs.trig.cos.Statement.{statement}
 use Rattle.elementary.proofs.trig.cos.Tie as tie
 
 held : (c : tie.Start) → T (fits binary32 (c .args .x))
-held c = subst T (sym (c .good .0 .1)) tt
+held c = yes (c .good .0 .1)
 
 returns : tie.Need-returns
 unfolding cosOf ofBits div
@@ -25,7 +24,7 @@ unfolding ofBits
 float-to-float-y c =
     let s = c .before .before .before in
     let x = s .args .x in
-    and-i (fits binary64 x) (not (isNan x)) (fits-widens x (held s)) (no-nan x (argument x (c .before .before .if1 .left) (yes (c .before .if2 .taken))))
+    to-double x (held s) (plus-no-nan x (argument x (c .before .before .if1 .left) (yes (c .before .if2 .taken)) .sign))
 
 cosine-plus-requires : tie.Need-cosine-plus-requires
 cosine-plus-requires c κs = search needs
