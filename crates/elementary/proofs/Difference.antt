@@ -1,9 +1,9 @@
 -- A difference of two floats, rounded: how far it is from the difference of the fractions that the floats are near. Assumes nothing.
-use mathlib.Core.Path.{_≡_, refl, sym, ap, ap₂, _∙_, subst, subst₂}
-use Prim.Native.Nat.{ℕ, zero, suc, _+_, _-_, _*_, _/_, _%_, _^_, _≤_, _<_}
-use native.Mathlib.Nat.{le-refl, le-trans, le-of-eq, mul-pos, mul-comm, mul-assoc, mul-left-comm, mul-right-comm, mul-le-mul-right, mul-le-mul-left, mul-le-mul, le-of-mul-le-mul-right}
+use mathlib.Core.Path.{_≡_, sym, ap, ap₂}
+use Prim.Native.Nat.{ℕ, _+_, _-_, _*_, _≤_, _<_}
+use native.Mathlib.Nat.{le-of-eq, mul-pos, mul-le-mul-right}
 use native.Mathlib.Omega.{arith}
-use Rattle.elementary.specs.Fraction.{Within, Le, Frac, plusQ, LeQ, over}
+use Rattle.elementary.specs.Fraction.{Frac, plusQ, LeQ, over}
 use Rattle.elementary.proofs.Truncation.{leQ-trans, leQ-refl, plus-mono}
 use Rattle.elementary.specs.Kernel.{one}
 

@@ -3,7 +3,7 @@
 use mathlib.Core.Path.{_≡_, refl, sym, ap, _∙_, subst}
 use mathlib.Core.Logic.{inl, inr}
 use Prim.Native.Nat.{ℕ, zero, suc, _+_, _-_, _*_, _/_, _%_, _^_, _≤_, _<_, suc-le-suc}
-use native.Mathlib.Nat.{le-refl, le-trans, le-of-eq, mul-pos, mul-left-comm, mul-le-mul-right, mul-le-mul-left, mul-le-mul, le-of-mul-le-mul-right, lt-of-mul-lt-mul-right, zero-mul, not-le-of-lt, mul-lt-mul-of-pos-right, pow-suc}
+use native.Mathlib.Nat.{le-trans, le-of-eq, mul-pos, mul-left-comm, mul-le-mul-right, mul-le-mul-left, mul-le-mul, le-of-mul-le-mul-right, lt-of-mul-lt-mul-right, zero-mul, not-le-of-lt, mul-lt-mul-of-pos-right, pow-suc}
 use native.Mathlib.Omega.{arith}
 use mathlib.Core.Bool.{Bool, true, false, not, _&&_, cond, true≢false}
 use lib.IntN.{ℤ, pos, negsuc}
@@ -11,21 +11,19 @@ use lib.Dec.{T, leb, ltb, eqb, leb→le, lit≤, lit<, ltb→lt, nltb→le, eqb�
 use lib.Pow.{pow-pos, pow-add, pow-mono}
 use lib.Ieee.{Float, nan, inf, fin, binary32, binary64, up, down, lt, fits, ofBits, mul, neg, ne, isNan, round}
 use lib.Ieee.Fits.{and-l, and-r, up-pos, down-pos}
-use lib.Ieee.Bits.{is-false}
-use lib.Ieee.Compare.{differs-from-itself}
 use lib.Ieee.Positive.{num, den, den-pos}
 use Rattle.exact.specs.Value.{plus}
 use Rattle.exact.specs.Narrow.{narrowed}
-use Rattle.exact.proofs.Narrowing.{narrowed-plus, no-nan}
-use Rattle.elementary.specs.Fraction.{Within, Frac, LeQ, oneQ, over}
+use Rattle.exact.proofs.Narrowing.{narrowed-plus, number, when-nan}
+use Rattle.exact.proofs.Integrals.{yes}
+use Rattle.elementary.specs.Fraction.{Frac, LeQ, oneQ, over}
 use Rattle.elementary.specs.Power.{E}
-use Rattle.elementary.specs.Near.{Near}
 use Rattle.elementary.specs.Kernel.{powerUp, powerDown, powerBy, Small, Ranged}
 use Rattle.elementary.specs.Promise.{parts, Part, Answers, PowerOf}
 use Rattle.elementary.proofs.Errors.{upper, lower, big, small}
-use Rattle.elementary.proofs.Ratio.{within-refl, within-trans, within-weaken}
+use Rattle.elementary.proofs.Ratio.{Within, Near, within-trans, within-weaken}
 use Rattle.elementary.proofs.Operations.{Range, mul-is, round-within}
-use Rattle.elementary.proofs.Horner.{Close, half, range-of, mul-close, close-up}
+use Rattle.elementary.proofs.Horner.{Close, half, range-of, self-close, mul-close, close-up}
 use Rattle.elementary.proofs.Lipschitz.{lt-or-ge}
 use Rattle.elementary.proofs.Powers.{E-pos, up-near, down-near, up-least, up-most, down-least, down-most, zero-E, fine32, near-least, near-most}
 use Rattle.elementary.proofs.Line.{up-over, down-under}
@@ -54,9 +52,6 @@ pub record Argument (t b a c : ℕ) (x : Float) : Type 0 where
   pub digits : den x ≤ 2 ^ 149
   pub some : 1 ≤ num x
   pub most : num x * a * b ≤ t * (den x * c)
-
-pub self-close : (x : Float) → T (plus x) → Close 0 x (over (num x) (den x))
-self-close x p = record { sign = p; within = within-refl 1 1 (num x) (den x) (le-refl 1) }
 
 -- a factor is itself
 pub own-factor : (l : Float) → T (plus l) → den l ≤ num l → num l ≤ 4 * den l → Factor l (num l) (den l)
@@ -460,12 +455,12 @@ ranged-down f (fin false L i) most x R F h k = absurd (R .negative)
 ranged-down f (fin true L i) most nan R F h k = absurd (true≢false (sym k))
 ranged-down f (fin true L i) most (inf false) R F h k = absurd (true≢false (sym k))
 ranged-down f (fin true L i) most (inf true) R F h k = absurd (true≢false h)
-ranged-down f (fin true L i) most (fin false m e) R F h k = absurd (bad (m * up e * 1) (down e) (ltb→lt (m * up e * 1) (0 * down e) (subst T (sym k) tt)))
+ranged-down f (fin true L i) most (fin false m e) R F h k = absurd (bad (m * up e * 1) (down e) (ltb→lt (m * up e * 1) (0 * down e) (yes k)))
   where
     bad : (a d : ℕ) → a < 0 * d → ⊥
     bad a d h = omega arith
 ranged-down f (fin true L i) most (fin true m e) R F h k =
-    ranged f 126 L i (lit≤ tt) (R .sign) (R .from) (R .to) (R .bottom) m e F (some (m * up e) (down e) (ltb→lt 0 (m * up e * 1 + 0 * 1 * down e) (subst T (sym k) tt))) (nltb→le (L * up i * down e) (m * up e * down i) (fail h))
+    ranged f 126 L i (lit≤ tt) (R .sign) (R .from) (R .to) (R .bottom) m e F (some (m * up e) (down e) (ltb→lt 0 (m * up e * 1 + 0 * 1 * down e) (yes k))) (nltb→le (L * up i * down e) (m * up e * down i) (fail h))
   where
     some : (x d : ℕ) → 0 < x * 1 + 0 * 1 * d → 0 < x
     some x d h = omega arith
@@ -480,7 +475,7 @@ ranged-up f least (fin false H j) (inf false) R F h k = absurd (true≢false h)
 ranged-up f least (fin false H j) (inf true) R F h k = absurd (true≢false (sym k))
 ranged-up f least (fin false H j) (fin true m e) R F h k = absurd (true≢false (sym k))
 ranged-up f least (fin false H j) (fin false m e) R F h k =
-    ranged f 127 H j (lit≤ tt) (R .sign) (R .from) (R .to) (R .top) m e F (some (m * up e) (down e) (ltb→lt (0 * 1 * down e) (m * up e * 1) (subst T (sym k) tt))) (nltb→le (H * up j * down e) (m * up e * down j) (fail h))
+    ranged f 127 H j (lit≤ tt) (R .sign) (R .from) (R .to) (R .top) m e F (some (m * up e) (down e) (ltb→lt (0 * 1 * down e) (m * up e * 1) (yes k))) (nltb→le (H * up j * down e) (m * up e * down j) (fail h))
   where
     some : (x d : ℕ) → 0 * 1 * d < x * 1 → 0 < x
     some x d h = omega arith
@@ -489,31 +484,28 @@ ranged-up f least (fin false H j) (fin false m e) R F h k =
 module _ (f least most x : Float) where
   pub by-nan : ne x x ≡ true → x ≡ powerBy f least most x
   unfolding powerBy isNan
-  by-nan h = subst (λ (z : Float). z ≡ powerBy f least most z) (sym (differs-from-itself x (subst T (sym h) tt))) refl
+  by-nan h = when-nan (λ (z : Float). z ≡ powerBy f least most z) x h refl
 
   module _ (n : ne x x ≡ false) where
-    number : isNan x ≡ false
-    number = is-false (isNan x) (no-nan x n)
-
     pub by-under : lt x least ≡ true → fin false 0 (pos 0) ≡ powerBy f least most x
     unfolding powerBy
-    by-under h = rw (number, h)
+    by-under h = rw (number x n, h)
 
     module _ (h : lt x least ≡ false) where
       pub by-over : lt most x ≡ true → inf false ≡ powerBy f least most x
       unfolding powerBy
-      by-over k = rw (number, h, k)
+      by-over k = rw (number x n, h, k)
 
       module _ (k : lt most x ≡ false) where
         pub by-down : lt x (fin false 0 (pos 0)) ≡ true → narrowed (powerDown (mul binary64 (neg x) f)) ≡ powerBy f least most x
         unfolding powerBy
-        by-down g = rw (number, h, k, g)
+        by-down g = rw (number x n, h, k, g)
 
         module _ (g : lt x (fin false 0 (pos 0)) ≡ false) where
           pub by-up : lt (fin false 0 (pos 0)) x ≡ true → narrowed (powerUp (mul binary64 x f)) ≡ powerBy f least most x
           unfolding powerBy
-          by-up i = rw (number, h, k, g, i)
+          by-up i = rw (number x n, h, k, g, i)
 
           pub by-one : lt (fin false 0 (pos 0)) x ≡ false → fin false 1 (pos 0) ≡ powerBy f least most x
           unfolding powerBy ofBits
-          by-one i = rw (number, h, k, g, i)
+          by-one i = rw (number x n, h, k, g, i)

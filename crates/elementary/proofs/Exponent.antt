@@ -8,14 +8,15 @@ use mathlib.Core.Bool.{Bool, true, false, not, cond}
 use lib.Dec.{T, leb, eqb, nleb→lt, lit≤, lit<}
 use lib.Pow.{pow-pos, pow-add, pow-mono}
 use lib.Arith.{lt→nleb, le→nltb}
-use lib.Ieee.{Float, nan, inf, fin, binary64, ofBits, toBits, ofFields, odd, fits, isNan, nanBits}
+use lib.Ieee.{Float, nan, inf, binary64, ofBits, toBits, ofFields, odd, fits, nanBits}
 use lib.Ieee.Exact.{HasValue}
 use lib.Ieee.Bits.{is-false, ofBits-toBits, nanBits-above}
 use lib.Ieee.Positive.{num, den, den-pos, value→cross}
 use Rattle.exact.specs.Value.{plus}
 use Rattle.exact.proofs.Value.{value-plus}
 use Rattle.exact.proofs.Narrowing.{bits-value, bits-value0}
-use Rattle.elementary.specs.Logarithm.{Ranged, Mantissa}
+use Rattle.elementary.specs.Logarithm.{Ranged}
+use Rattle.elementary.proofs.Root.{Mantissa}
 use Rattle.elementary.proofs.Scale.{rescale}
 
 -- ---- a finite pattern without a sign
@@ -155,9 +156,3 @@ mantissa t h =
 
 pub mantissa-no-nan : (t : ℕ) → t < 4503599627370496 → T (not (nanBits binary64 (4607182418800017408 + t)))
 mantissa-no-nan t h = subst (λ (b : Bool). T (not b)) (sym (nanBits-above binary64 (4607182418800017408 + t))) (le→nltb 9218868437227405312 ((4607182418800017408 + t) % 9223372036854775808) (omega arith))
-
-pub plus-no-nan : (x : Float) → T (plus x) → T (not (isNan x))
-unfolding isNan
-plus-no-nan nan p = absurd p
-plus-no-nan (inf s) p = absurd p
-plus-no-nan (fin s m e) p = tt

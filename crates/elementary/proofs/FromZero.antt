@@ -1,4 +1,4 @@
--- What the tests of `sin` and `cos` say of the argument: it is above 3.2, from 2 ^ -12 to 3.2, from 0 to 2 ^ -12, or zeroArg of these. Assumes nothing.
+-- What the tests of `sin` and `cos` say of the argument: it is above 3.2, from 2 ^ -12 to 3.2, from 0 to 2 ^ -12, or none of these. Assumes nothing.
 use mathlib.Core.Path.{_≡_, refl, sym, ap, _∙_, subst}
 use mathlib.Core.Logic.{_⊎_, inl, inr}
 use Prim.Native.Nat.{ℕ, _*_, _^_, _≤_, _<_}
@@ -7,9 +7,10 @@ use native.Mathlib.Omega.{arith}
 use mathlib.Core.Bool.{Bool, true, false, not, _&&_, _||_, true≢false}
 use lib.IntN.{ℤ, pos, negsuc}
 use lib.Dec.{T, ltb, eqb, lit≤, ltb→lt, nltb→le, eqb→eq, eqb-refl}
-use lib.Ieee.{Float, nan, inf, fin, binary32, up, down, lt, le, fits, isNan}
+use lib.Ieee.{Float, nan, inf, fin, binary32, up, down, lt, le, fits}
 use lib.Ieee.Fits.{and-l, up-pos, down-pos}
 use lib.Ieee.Positive.{num, den}
+use Rattle.exact.proofs.Integrals.{no}
 use Rattle.elementary.specs.Trigonometric.{FromZero, Trigonometric, Sine, Absolute, Relative, plusTerms, minusTerms, value}
 use Rattle.elementary.proofs.ExpFn.{grid-next}
 use Rattle.elementary.proofs.Trigonometry.{Argument}
@@ -79,7 +80,7 @@ argument nan h k = absurd k
 argument (inf false) h k = absurd (true≢false h)
 argument (inf true) h k = absurd k
 argument (fin true m e) h k = absurd (true≢false (reached true m e k .0))
-argument (fin false m e) h k = record { sign = tt; least = reached false m e k .1; most = under (m * up e) (down e) (nltb→le (3355443 * 1 * down e) (m * up e * 2 ^ 20) (subst (λ (b : Bool). T (not b)) (sym h) tt)) }
+argument (fin false m e) h k = record { sign = tt; least = reached false m e k .1; most = under (m * up e) (down e) (nltb→le (3355443 * 1 * down e) (m * up e * 2 ^ 20) (no h)) }
   where
     under : (a d : ℕ) → a * 2 ^ 20 ≤ 3355443 * 1 * d → 5 * a ≤ 16 * d
     under a d h = omega arith
@@ -89,12 +90,6 @@ in-range nan S = absurd (S .sign)
 in-range (inf s) S = absurd (S .sign)
 in-range (fin true m e) S = absurd (S .sign)
 in-range (fin false m e) S = S .most
-
-pub no-nan : (x : Float) → Argument x → T (not (isNan x))
-unfolding isNan
-no-nan nan S = absurd (S .sign)
-no-nan (inf s) S = tt
-no-nan (fin s m e) S = tt
 
 pub up-to : (x : Float) → Argument x → FromZero 3 2 x → 2 * num x ≤ 3 * den x
 up-to nan S h = absurd h

@@ -9,19 +9,18 @@ use lib.IntN.{ℤ, negsuc}
 use lib.Dec.{T, ltb→lt, nltb→le, lit≤, lit<}
 use lib.Ieee.{Float, nan, inf, fin, binary32, binary64, up, down, lt, fits, ne, isNan, round, sub, mul, ofBits}
 use lib.Ieee.Fits.{down-pos}
-use lib.Ieee.Compare.{differs-from-itself}
 use lib.Ieee.Positive.{num, den, den-pos}
 use Rattle.exact.specs.Value.{plus}
 use Rattle.exact.specs.Narrow.{narrowed}
-use Rattle.exact.proofs.Narrowing.{no-nan}
-use Rattle.elementary.specs.Fraction.{Within, Frac}
+use Rattle.exact.proofs.Narrowing.{no-nan, when-nan}
+use Rattle.exact.proofs.Integrals.{yes}
+use Rattle.elementary.specs.Fraction.{Frac}
 use Rattle.elementary.specs.Power.{E}
-use Rattle.elementary.specs.Near.{Near}
 use Rattle.elementary.specs.Kernel.{powerUp, powerDown, Small}
 use Rattle.elementary.specs.Promise.{Answers}
 use Rattle.elementary.specs.Hyperbolic.{Sinh, hyperbolic}
 use Rattle.elementary.proofs.Errors.{upper, lower}
-use Rattle.elementary.proofs.Ratio.{within-trans, within-weaken}
+use Rattle.elementary.proofs.Ratio.{Within, Near, within-trans, within-weaken}
 use Rattle.elementary.proofs.Operations.{Range, round-within, mul-near}
 use Rattle.elementary.proofs.Horner.{half, fine, range-of, within-atleast, within-atmost}
 use Rattle.elementary.proofs.Powers.{sub-is, E-pos, up-most-at, down-one}
@@ -366,9 +365,6 @@ sinh-over m e F h =
 fail : {b : Bool} → b ≡ false → T (not b)
 fail e = subst (λ (x : Bool). T (not x)) (sym e) tt
 
-pass : {b : Bool} → b ≡ true → T b
-pass e = subst T (sym e) tt
-
 -- 2 ^ -12, and the last single whose figure is not above 2 ^ 127
 abbrev first : Float
 first = fin false 1 (negsuc 11)
@@ -377,7 +373,7 @@ abbrev last : Float
 last = fin false 11629079 (negsuc 16)
 
 pub at-nan : (x : Float) → ne x x ≡ true → Sinh x x
-at-nan x h = subst (λ (y : Float). Sinh y y) (sym (differs-from-itself x (pass h))) refl
+at-nan x h = when-nan (λ (y : Float). Sinh y y) x h refl
 
 pub below-first : (x : Float) → lt x first ≡ true → Sinh x nan
 unfolding lt
@@ -385,7 +381,7 @@ below-first nan h = refl
 below-first (inf false) h = absurd (true≢false (sym h))
 below-first (inf true) h = refl
 below-first (fin true m e) h = refl
-below-first (fin false m e) h = (λ _. refl, λ k. absurd (bad (m * up e) (down e) (ltb→lt (m * up e * 4096) (1 * down e) (pass h)) k))
+below-first (fin false m e) h = (λ _. refl, λ k. absurd (bad (m * up e) (down e) (ltb→lt (m * up e * 4096) (1 * down e) (yes h)) k))
   where
     bad : (n d : ℕ) → n * 4096 < 1 * d → d ≤ n * 4096 → ⊥
     bad n d h k = omega arith
@@ -397,7 +393,7 @@ above-last (inf false) F h = refl
 above-last (inf true) F h = absurd (true≢false (sym h))
 above-last (fin true m e) F h = absurd (true≢false (sym h))
 above-last (fin false m e) F h =
-    let g = ltb→lt (11629079 * 1 * down e) (m * up e * 2 ^ 17) (pass h) in
+    let g = ltb→lt (11629079 * 1 * down e) (m * up e * 2 ^ 17) (yes h) in
     (λ k. absurd (bad (m * up e) (down e) g k), λ _. sinh-over m e F g)
   where
     bad : (n d : ℕ) → 11629079 * 1 * d < n * 131072 → n * 4096 < d → ⊥

@@ -1,22 +1,20 @@
 -- A polynomial with positive coefficients at a number that is not negative, by Horner's rule: in floats, and exactly in fractions. Assumes nothing.
-use mathlib.Core.Path.{_≡_, refl, sym, ap, ap₂, _∙_, subst, subst₂}
+use mathlib.Core.Path.{_≡_, refl, sym, ap, _∙_, subst, subst₂}
 use mathlib.Core.Logic.{_⊎_, inl, inr}
 use mathlib.Core.List.{List, [], _∷_}
-use Prim.Native.Nat.{ℕ, zero, suc, _+_, _-_, _*_, _/_, _^_, _≤_, _<_}
-use native.Mathlib.Nat.{le-refl, le-trans, le-of-eq, le-of-lt, lt-of-lt-of-le, lt-of-le-of-lt, mul-pos, zero-mul, mul-comm, mul-assoc, mul-left-comm, mul-right-comm, mul-le-mul-right, mul-le-mul-left, mul-le-mul, le-of-mul-le-mul-right, pow-suc, pow-le-pow-left, mul-one, add-comm, one-le-pow}
+use Prim.Native.Nat.{ℕ, suc, _+_, _*_, _^_, _≤_, _<_}
+use native.Mathlib.Nat.{le-refl, le-trans, le-of-eq, mul-pos, zero-mul, mul-comm, mul-left-comm, mul-le-mul-right, mul-le-mul-left, mul-le-mul, le-of-mul-le-mul-right, pow-suc, pow-le-pow-left, add-comm, one-le-pow}
 use native.Mathlib.Omega.{arith}
-use mathlib.Core.Bool.{Bool, true, false, _&&_}
-use lib.Dec.{T, leb, leb→le, lit≤, ltb, ltb→lt}
-use lib.Pow.{pow-pos, pow-add, pow-mono, pow-lt}
+use mathlib.Core.Bool.{false}
+use lib.Dec.{T, lit≤}
+use lib.Pow.{pow-pos, pow-add, pow-mono}
 use lib.ListN.{length}
-use lib.Ieee.{Float, nan, inf, fin, Format, binary32, binary64, prec, emax, low, up, down, round, add, mul, sum, size}
-use lib.Ieee.Fits.{and-l, and-r}
+use lib.Ieee.{Float, binary64, low, round, add, mul}
 use lib.Ieee.Positive.{num, den, den-pos}
-use Rattle.elementary.specs.Fraction.{Le, Within, Frac, plusQ, timesQ, hornerQ}
-use Rattle.elementary.proofs.Ratio.{within-same, within-sym, within-trans, within-mul, within-add, within-weaken}
+use Rattle.elementary.specs.Fraction.{Frac, over, plusQ, timesQ, hornerQ}
+use Rattle.elementary.proofs.Ratio.{Within, Near, within-refl, within-weaken}
 use Rattle.exact.specs.Value.{plus}
 use Rattle.elementary.proofs.Operations.{Fine, Range, mul-near, add-near, mul-is, add-is, round-within}
-use Rattle.elementary.specs.Near.{Near}
 use Rattle.elementary.proofs.Errors.{upper, lower, errors}
 use Rattle.elementary.specs.Power.{E}
 use Rattle.elementary.specs.Kernel.{hornerF}
@@ -75,6 +73,9 @@ low-pos k = one-le-pow k lower (lit≤ tt)
 
 more : (p q r s : ℕ) → s ≤ r → p * (q * s) ≤ p * r * q
 more p q r s h = omega (arith, mul-le-mul-left (p * q) h)
+
+pub self-close : (x : Float) → T (plus x) → Close 0 x (over (num x) (den x))
+self-close x p = record { sign = p; within = within-refl 1 1 (num x) (den x) (le-refl 1) }
 
 pub close-up : (k m : ℕ) (x : Float) (q : Frac) → Close k x q → Close (k + m) x q
 close-up k m x q h = record {
@@ -152,10 +153,10 @@ pub record Val (k n : ℕ) (p : Float) (P : Frac) : Type 0 where
 zero-prod : (a b : ℕ) → a ≡ 0 → a * b ≡ 0
 zero-prod a b e = ap (λ (z : ℕ). z * b) e ∙ zero-mul b
 
-prod-least : (a b c d s t : ℕ) → b ≤ a * s → d ≤ c * t → b * d ≤ a * c * (s * t)
+pub prod-least : (a b c d s t : ℕ) → b ≤ a * s → d ≤ c * t → b * d ≤ a * c * (s * t)
 prod-least a b c d s t h k = omega (arith, mul-le-mul h k)
 
-prod-most : (a b c d s t : ℕ) → a ≤ b * s → c ≤ d * t → a * c ≤ b * d * (s * t)
+pub prod-most : (a b c d s t : ℕ) → a ≤ b * s → c ≤ d * t → a * c ≤ b * d * (s * t)
 prod-most a b c d s t h k = omega (arith, mul-le-mul h k)
 
 sum-least : (a b c d s : ℕ) → b ≤ a * s → b * d ≤ (a * d + c * b) * s

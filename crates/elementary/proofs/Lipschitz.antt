@@ -1,17 +1,17 @@
 -- The series, and E, change little where the argument does. Assumes nothing.
-use mathlib.Core.Path.{_≡_, refl, sym, ap, ap₂, _∙_, subst, subst₂}
+use mathlib.Core.Path.{_≡_, refl, sym, ap, _∙_, subst, subst₂}
 use mathlib.Core.Logic.{_⊎_, inl, inr}
 use mathlib.Core.List.{List, [], _∷_, _++_}
-use Prim.Native.Nat.{ℕ, zero, suc, _+_, _-_, _*_, _/_, _%_, _^_, _≤_, _<_}
-use native.Mathlib.Nat.{le-refl, le-trans, le-of-eq, le-of-lt, lt-of-lt-of-le, mul-pos, mul-comm, mul-assoc, mul-left-comm, mul-right-comm, mul-le-mul-right, mul-le-mul-left, mul-le-mul, le-of-mul-le-mul-right, mul-one, one-mul, mod-lt, div-add-mod', pow-suc, eq-or-lt-of-le}
+use Prim.Native.Nat.{ℕ, suc, _+_, _*_, _/_, _%_, _^_, _≤_, _<_}
+use native.Mathlib.Nat.{le-refl, le-trans, le-of-eq, le-of-lt, mul-le-mul-right, mul-le-mul-left, le-of-mul-le-mul-right, mul-one, one-mul, mod-lt, div-add-mod', pow-suc, eq-or-lt-of-le}
 use native.Mathlib.Omega.{arith}
 use mathlib.Core.Bool.{Bool, true, false, not, _&&_}
 use lib.Dec.{T, leb, ltb, leb→le, lit≤, lit<, ltb→lt, nltb→le}
-use lib.Pow.{pow-pos, pow-add, pow-mono}
+use lib.Pow.{pow-mono}
 use lib.ListN.{length}
 use lib.Ieee.Fits.{and-l, and-r}
-use Rattle.elementary.specs.Fraction.{Frac, plusQ, timesQ, hornerQ, LeQ, oneQ, over}
-use Rattle.elementary.proofs.Truncation.{leQ-trans, leQ-refl, horner-mono, horner-pos, Pos}
+use Rattle.elementary.specs.Fraction.{Frac, hornerQ, LeQ, oneQ, over}
+use Rattle.elementary.proofs.Truncation.{leQ-trans, horner-mono, horner-pos, Pos}
 use Rattle.elementary.specs.Power.{E, coef, coefs, series}
 use Rattle.elementary.proofs.Series.{series-is, series-pos, series-least, series-most, series-zero, series-mono, all-pos}
 
@@ -82,7 +82,7 @@ pub series-bot : (x y c : ℕ) → series (over x c) .bot ≡ series (over y c) 
 series-bot x y c = subst₂ (λ (u v : Frac). u .bot ≡ v .bot) (sym (series-is (over x c))) (sym (series-is (over y c))) (same-bot x y c oneQ all-coefs)
 
 -- nearly 2 at 1
-near-two : LeQ (over 1099511627775 549755813888) (series oneQ)
+pub near-two : LeQ (over 1099511627775 549755813888) (series oneQ)
 unfolding series
 near-two = lit≤ tt
 

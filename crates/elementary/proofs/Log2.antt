@@ -2,28 +2,30 @@
 use mathlib.Core.Logic.{_⊎_, inl, inr}
 use mathlib.Core.Path.{_≡_, refl, sym, ap, _∙_, subst}
 use Prim.Native.Nat.{ℕ, zero, suc, _+_, _-_, _*_, _%_, _^_, _≤_, _<_}
-use native.Mathlib.Nat.{le-trans, le-of-eq, lt-of-lt-of-le, mul-pos, mul-comm, mul-assoc, mul-le-mul-left, mul-le-mul-right, le-of-mul-le-mul-right, eq-zero-or-pos}
+use native.Mathlib.Nat.{le-trans, le-of-eq, lt-of-lt-of-le, mul-pos, mul-comm, mul-assoc, mul-le-mul-left, mul-le-mul-right, le-of-mul-le-mul-right, eq-zero-or-pos, mod-lt}
 use native.Mathlib.Omega.{arith}
 use mathlib.Core.Bool.{Bool, true, false, not, cond, _&&_, true≢false}
 use lib.IntN.{pos}
 use lib.Dec.{T, leb, ltb, eqb, le→leb, leb→le, nleb→lt, ltb→lt, nltb→le, lit≤, lit<}
 use lib.Pow.{pow-pos}
 use lib.Arith.{lt→nleb}
-use lib.Ieee.{Float, nan, inf, fin, binary32, round, neg, up, down, fits, isNan, lt, eq, ne}
+use lib.Ieee.{Float, nan, inf, fin, binary32, binary64, round, toBits, neg, up, down, fits, isNan, lt, eq, ne}
 use lib.Ieee.Exact.{HasValue}
 use lib.Ieee.Fits.{and-l, and-r, up-pos}
-use lib.Ieee.Compare.{differs-from-itself}
 use lib.Ieee.Bits.{is-true, is-false}
 use lib.Ieee.Scale.{round-same}
 use lib.Ieee.Positive.{num, den, den-pos, value→cross}
 use Rattle.exact.specs.Value.{plus}
 use Rattle.exact.specs.Narrow.{narrowed}
 use Rattle.exact.proofs.Value.{value-plus}
-use Rattle.exact.proofs.Narrowing.{narrowed-plus}
-use Rattle.elementary.specs.Fraction.{Frac, Le, Within}
+use Rattle.exact.proofs.Narrowing.{narrowed-plus, when-nan}
+use Rattle.exact.proofs.Integrals.{no}
+use Rattle.elementary.specs.Fraction.{Frac}
 use Rattle.elementary.specs.Power.{E}
-use Rattle.elementary.specs.Logarithm.{unit, seriesAt, log2Parts, PartOf, Inverts, Log2, Ranged, Solves, nearestSum}
-use Rattle.elementary.proofs.Ratio.{le-weaken, within-trans, within-same, within-sym}
+use Rattle.elementary.specs.Logarithm.{unit, log2Parts, PartOf, Inverts, Log2, Ranged, fixedAt, fractionOf, nearestSum, exponentOf, mantissaOf, positiveOf}
+use Rattle.elementary.proofs.Root.{seriesAt, Solves, fixed-value, fraction-solves}
+use Rattle.elementary.proofs.Exponent.{digitsOf, parts, mantissa, mantissa-value}
+use Rattle.elementary.proofs.Ratio.{Le, Within, le-weaken, within-trans, within-same, within-sym}
 use Rattle.elementary.proofs.Operations.{Fine, round-within}
 use Rattle.elementary.proofs.Powers.{E-pos}
 use Rattle.elementary.proofs.Near.{E-scale}
@@ -37,16 +39,19 @@ pick-above n x y h = ap (λ (b : Bool). cond b x y) (sym (is-true (leb 1023 n) (
 pick-below : (n : ℕ) (x y : Float) → n < 1023 → y ≡ cond (leb 1023 n) x y
 pick-below n x y h = ap (λ (b : Bool). cond b x y) (sym (is-false (leb 1023 n) (lt→nleb 1023 n h)))
 
-narrowed-at : (z : Float) (a : ℕ) → HasValue z false a unit → narrowed z ≡ round binary32 false a unit
-narrowed-at z a v = narrowed-plus z (value-plus z a unit v) ∙ round-same binary32 false (num z) (den z) a unit (den-pos z) (lit< tt) (value→cross z a unit v)
+narrowed-at : (a : ℕ) → a ≤ 150 * unit → narrowed (fixedAt a) ≡ round binary32 false a unit
+narrowed-at a h =
+    let z = fixedAt a in
+    let v = fixed-value a h in
+    narrowed-plus z (value-plus z a unit v) ∙ round-same binary32 false (num z) (den z) a unit (den-pos z) (lit< tt) (value→cross z a unit v)
 
-pub sum-above : (n k : ℕ) (z r : Float) → 1023 ≤ n → HasValue z false ((n - 1023) * unit + k) unit → r ≡ narrowed z → r ≡ nearestSum n k
+pub sum-above : (n k : ℕ) → 1023 ≤ n → n ≤ 1150 → k < unit → narrowed (fixedAt ((n - 1023) * unit + k)) ≡ nearestSum n k
 unfolding nearestSum
-sum-above n k z r h v e = e ∙ narrowed-at z ((n - 1023) * unit + k) v ∙ pick-above n (round binary32 false ((n - 1023) * unit + k) unit) (neg (round binary32 false ((1023 - n) * unit - k) unit)) h
+sum-above n k h g i = narrowed-at ((n - 1023) * unit + k) (omega arith) ∙ pick-above n (round binary32 false ((n - 1023) * unit + k) unit) (neg (round binary32 false ((1023 - n) * unit - k) unit)) h
 
-pub sum-below : (n k : ℕ) (z r : Float) → n < 1023 → HasValue z false ((1023 - n) * unit - k) unit → r ≡ narrowed z → neg r ≡ nearestSum n k
+pub sum-below : (n k : ℕ) → n < 1023 → 874 ≤ n → neg (narrowed (fixedAt ((1023 - n) * unit - k))) ≡ nearestSum n k
 unfolding nearestSum
-sum-below n k z r h v e = ap neg (e ∙ narrowed-at z ((1023 - n) * unit - k) v) ∙ pick-below n (round binary32 false ((n - 1023) * unit + k) unit) (neg (round binary32 false ((1023 - n) * unit - k) unit)) h
+sum-below n k h g = ap neg (narrowed-at ((1023 - n) * unit - k) (omega arith)) ∙ pick-below n (round binary32 false ((n - 1023) * unit + k) unit) (neg (round binary32 false ((1023 - n) * unit - k) unit)) h
 
 -- ---- a number up to 149 rounded to an `f32`, and E of both: one part in 2 ^ 24 - 1 of 150 moves E by less than 105 parts of 2 ^ 24 - 1
 fine : Fine binary32 8388608 16777215
@@ -215,16 +220,22 @@ module _ (x m : Float) (M n k : ℕ) (low-end : 874 ≤ n) (high-end : n ≤ 115
       (part-of (E true (num r) (den r)) f (num x) (den x) (E-pos false (150 * unit - a) unit (lit< tt)) (near-below (num r) (den r) a (den-pos r) A (w .1))
       (subst (λ (z : ℕ). Within 1048577 1048576 (E false z unit .top) (E false z unit .bot) (num x * 2 ^ 150) (den x)) (sym e) (solved x m M (n - 873) k vm vx s)))
 
-  pub inverts : Inverts (num x) (den x) (nearestSum n k)
+  inverts : Inverts (num x) (den x) (nearestSum n k)
   unfolding nearestSum
   inverts = sum-inverts (leb 1023 n) (leb→le 1023 n) (nleb→lt 1023 n)
 
+pub positive-inverts : (x : Float) → T (fits binary64 x) → Ranged x → Inverts (num x) (den x) (positiveOf x)
+unfolding positiveOf
+positive-inverts x f r =
+    let b = toBits binary64 x in
+    let p = parts x f r in
+    let t : b % 4503599627370496 < 4503599627370496 = mod-lt b (lit< tt) in
+    let m = mantissaOf b in
+    inverts x m (digitsOf b) (exponentOf b) (fractionOf m) (p .low-end) (p .high-end) (mantissa-value (b % 4503599627370496) t) (p .value) (fraction-solves m (mantissa (b % 4503599627370496) t))
+
 -- ---- by the argument
 pub at-nan : (x : Float) → ne x x ≡ true → Log2 x x
-at-nan x h = go x (differs-from-itself x (subst T (sym h) tt))
-  where
-    go : (x : Float) → x ≡ nan → Log2 x x
-    go x e = subst (λ (y : Float). Log2 y y) (sym e) refl
+at-nan x h = when-nan (λ (y : Float). Log2 y y) x h refl
 
 zero-below : (u d : ℕ) → 0 < 0 * u * 1 + 0 * d → ⊥
 zero-below u d h = omega arith
@@ -282,11 +293,11 @@ zero-done nan n l i g = absurd n
 zero-done (inf false) n l i g = absurd (true≢false i)
 zero-done (inf true) n l i g = absurd (true≢false l)
 zero-done (fin s zero e) n l i g = refl
-zero-done (fin true (suc m) e) n l i g = absurd (some (suc m * up e) (down e) (mul-pos {m = suc m} (omega arith) (up-pos e)) (nltb→le 0 (suc m * up e * 1 + 0 * 1 * down e) (subst (λ (b : Bool). T (not b)) (sym l) tt)))
+zero-done (fin true (suc m) e) n l i g = absurd (some (suc m * up e) (down e) (mul-pos {m = suc m} (omega arith) (up-pos e)) (nltb→le 0 (suc m * up e * 1 + 0 * 1 * down e) (no l)))
   where
     some : (a d : ℕ) → 0 < a → a * 1 + 0 * 1 * d ≤ 0 → ⊥
     some a d h k = omega arith
-zero-done (fin false (suc m) e) n l i g = absurd (some (suc m * up e) (down e) (mul-pos {m = suc m} (omega arith) (up-pos e)) (nltb→le (0 * 1 * down e) (suc m * up e * 1) (subst (λ (b : Bool). T (not b)) (sym g) tt)))
+zero-done (fin false (suc m) e) n l i g = absurd (some (suc m * up e) (down e) (mul-pos {m = suc m} (omega arith) (up-pos e)) (nltb→le (0 * 1 * down e) (suc m * up e * 1) (no g)))
   where
     some : (a d : ℕ) → 0 < a → a * 1 ≤ 0 * 1 * d → ⊥
     some a d h k = omega arith

@@ -5,15 +5,16 @@ use Prim.Native.Nat.{ℕ, suc, _+_, _-_, _*_, _/_, _%_, _^_, _≤_, _<_}
 use native.Mathlib.Nat.{le-trans, le-of-eq, mul-le-mul-right, mul-le-mul-left, mul-le-mul, le-of-mul-le-mul-right, le-of-lt, mod-lt, div-add-mod', pow-suc, eq-or-lt-of-le}
 use native.Mathlib.Omega.{arith}
 use mathlib.Core.Bool.{Bool, true, false, _&&_}
-use lib.Dec.{T, leb, leb→le, lit≤, lit<}
+use lib.Dec.{T, leb, leb→le, lit<}
 use lib.Ieee.Fits.{and-l, and-r}
 use mathlib.Core.Logic.{inl, inr}
 use lib.Pow.{pow-mono}
-use Rattle.elementary.specs.Fraction.{Frac, hornerQ, oneQ, over, LeQ, Le}
+use Rattle.elementary.proofs.Ratio.{Le}
+use Rattle.elementary.specs.Fraction.{Frac, hornerQ, oneQ, over}
 use Rattle.elementary.specs.Power.{coef, coefs, series, E}
 use Rattle.elementary.proofs.Truncation.{leQ-trans}
 use Rattle.elementary.proofs.Series.{series-pos, series-least, series-most, series-zero, series-mono}
-use Rattle.elementary.proofs.Lipschitz.{same-bot, series-bot, lt-or-ge}
+use Rattle.elementary.proofs.Lipschitz.{same-bot, series-bot, near-two, lt-or-ge}
 use Rattle.elementary.specs.Kernel.{one}
 
 -- the derivative's numerator, over the same denominator
@@ -123,11 +124,6 @@ series-mean x y c e C h =
     one a b = omega arith
 
 -- ---- E, where the argument grows by e / c at most, e up to c: with w / D = 1 - ln 2 * e / c, E at the larger is at most D / w times E at the smaller, but for one part in 2 ^ 40
--- nearly 2 at 1
-near-two : LeQ (over 1099511627775 549755813888) (series oneQ)
-unfolding series
-near-two = lit≤ tt
-
 pub at-whole : (c : ℕ) → 1099511627775 * series (over c c) .bot ≤ series (over c c) .top * 549755813888
 at-whole c = leQ-trans (over 1099511627775 549755813888) (series oneQ) (series (over c c)) (series-pos oneQ (lit< tt)) near-two (series-mono oneQ (over c c) (omega arith))
 

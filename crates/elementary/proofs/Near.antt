@@ -1,23 +1,19 @@
 -- E at a float that is near a fraction is near E at the fraction. Assumes nothing.
-use mathlib.Core.Path.{_≡_, refl, sym, ap, ap₂, _∙_, subst, subst₂}
-use Prim.Native.Nat.{ℕ, zero, suc, _+_, _-_, _*_, _/_, _%_, _^_, _≤_, _<_}
-use native.Mathlib.Nat.{le-refl, le-trans, le-of-eq, le-of-lt, mul-pos, mul-comm, mul-assoc, mul-left-comm, mul-right-comm, mul-le-mul-right, mul-le-mul-left, mul-le-mul, le-of-mul-le-mul-right, mul-one, mod-lt, div-add-mod', mul-div-mul-left, mul-lt-mul-of-pos-right, mul-sub}
+use mathlib.Core.Path.{_≡_, sym, ap, _∙_, subst, subst₂}
+use Prim.Native.Nat.{ℕ, _+_, _-_, _*_, _/_, _%_, _^_, _≤_, _<_}
+use native.Mathlib.Nat.{le-trans, le-of-eq, mul-pos, mul-comm, mul-le-mul-right, mul-le-mul-left, le-of-mul-le-mul-right, mod-lt, div-add-mod', mul-lt-mul-of-pos-right, mul-sub}
 use native.Mathlib.Omega.{arith}
-use mathlib.Core.Bool.{Bool, true, false}
-use lib.Dec.{T, lit≤, lit<}
+use mathlib.Core.Bool.{false}
+use lib.Dec.{lit≤, lit<}
 use lib.Arith.{digits-div, digits-mod}
-use lib.Pow.{pow-pos}
-use lib.Ieee.{Float, binary64, ofBits, ofInt, sub, mul}
+use lib.Ieee.{Float, binary64, ofBits, sub, mul}
 use lib.Ieee.Exact.{HasValue}
 use lib.Ieee.Positive.{num, den, den-pos}
-use Rattle.elementary.specs.Fraction.{Le, Within, Frac, LeQ, over}
-use Rattle.elementary.proofs.Ratio.{within-trans, within-sym}
-use Rattle.exact.specs.Value.{plus}
-use Rattle.elementary.specs.Near.{Near}
+use Rattle.elementary.specs.Fraction.{LeQ, over}
+use Rattle.elementary.proofs.Ratio.{Le, Within, Near, within-trans, within-sym}
 use Rattle.elementary.proofs.Errors.{upper, lower, big, small}
-use Rattle.elementary.proofs.Horner.{Close}
 use Rattle.elementary.specs.Power.{series, E}
-use Rattle.elementary.proofs.Series.{series-mono, series-pos}
+use Rattle.elementary.proofs.Series.{series-mono}
 use Rattle.elementary.specs.Kernel.{kernel}
 use Rattle.elementary.proofs.Lipschitz.{E-cont}
 use Rattle.elementary.proofs.Powers.{E-pos, exp2-up}

@@ -6,7 +6,8 @@ use native.Mathlib.Omega.{arith}
 use mathlib.Core.Bool.{true, false}
 use lib.Arith.{digits-div, digits-mod}
 use lib.Pow.{pow-add}
-use Rattle.elementary.specs.Fraction.{Frac, Within, over}
+use Rattle.elementary.proofs.Ratio.{Within}
+use Rattle.elementary.specs.Fraction.{Frac, over}
 use Rattle.elementary.specs.Power.{series, E, ceil}
 use Rattle.elementary.proofs.Powers.{ceil-ge}
 

@@ -2,22 +2,19 @@
 -- where the exact one is 0 or in the normal range and not near the overflow. Assumes nothing.
 use mathlib.Core.Path.{_≡_, refl, sym, ap, _∙_, subst}
 use mathlib.Core.Logic.{_⊎_, inl, inr}
-use Prim.Native.Nat.{ℕ, zero, suc, _+_, _-_, _*_, _/_, _^_, _≤_, _<_}
-use native.Mathlib.Nat.{le-refl, le-trans, le-of-eq, lt-of-le-of-lt, lt-of-lt-of-le, lt-of-not-le, pow-suc, mul-pos, zero-mul, mul-comm, mul-assoc, mul-left-comm, mul-right-comm, mul-le-mul-right, mul-le-mul-left, mul-le-mul, le-of-mul-le-mul-right}
+use Prim.Native.Nat.{ℕ, zero, suc, _+_, _-_, _*_, _^_, _≤_, _<_}
+use native.Mathlib.Nat.{le-of-eq, lt-of-lt-of-le, lt-of-not-le, pow-suc, mul-pos, zero-mul, mul-assoc, mul-le-mul-right, mul-le-mul-left, le-of-mul-le-mul-right}
 use native.Mathlib.Omega.{arith}
-use mathlib.Core.Bool.{Bool, true, false, true≢false}
+use mathlib.Core.Bool.{true, false}
 use lib.Dec.{T}
-use lib.Pow.{pow-pos, pow-add, pow-mono, pow-lt}
-use lib.Ieee.{Float, nan, inf, fin, Format, binary32, binary64, prec, emax, low, up, down, round, add, mul, sum, size}
-use lib.Ieee.Fits.{down-pos, two, two-le-pos}
+use lib.Pow.{pow-pos, pow-add}
+use lib.Ieee.{Float, nan, inf, fin, Format, prec, emax, low, round, add, sub, mul, sum}
 use lib.Ieee.Exact.{HasValue}
 use lib.Ieee.Order.{drop, kept}
 use lib.Ieee.Scale.{grid, overflow, round-val}
 use lib.Ieee.Positive.{num, den, den-pos, value→cross}
 use Rattle.exact.proofs.Rounding.{grid-hi, grid-lo, closest-hi}
-use Rattle.elementary.specs.Fraction.{Le, Within}
-use Rattle.elementary.proofs.Ratio.{within-same, within-sym, within-trans, within-mul, within-add}
-use Rattle.elementary.specs.Near.{Near}
+use Rattle.elementary.proofs.Ratio.{Within, Near, within-same, within-sym, within-trans, within-mul, within-add}
 use Rattle.exact.specs.Value.{plus}
 use Rattle.exact.proofs.Value.{value-plus}
 
@@ -132,3 +129,14 @@ add-near f h w u v x y a c b d F X Y r =
       within = within-trans (suc w) w u v (num z) (den z) e (den x * den y) (a * d + b * c) (c * d) D' (i .1)
           (within-add u v (num x) (den x) a c (num y) (den y) b d (X .within) (Y .within));
     })
+
+-- a difference of two floats that are not negative
+pub open-sub : (f : Format) (x y : Float) → T (plus x) → T (plus y) → sub f x y ≡ sum f false (num x * den y) true (num y * den x) (den x * den y)
+unfolding sub
+open-sub f nan y p q = absurd p
+open-sub f (inf s) y p q = absurd p
+open-sub f (fin true m e) y p q = absurd p
+open-sub f (fin false m e) nan p q = absurd q
+open-sub f (fin false m e) (inf t) p q = absurd q
+open-sub f (fin false m e) (fin true n d) p q = absurd q
+open-sub f (fin false m e) (fin false n d) p q = refl

@@ -4,38 +4,28 @@ use mathlib.Core.Logic.{_⊎_, inl, inr}
 use Prim.Native.Nat.{ℕ, zero, suc, _+_, _-_, _*_, _/_, _%_, _^_, _≤_, _<_}
 use native.Mathlib.Nat.{le-refl, le-trans, le-of-eq, le-of-lt, mul-pos, mul-comm, mul-assoc, mul-right-comm, mul-le-mul-right, mul-le-mul-left, mul-le-mul, le-of-mul-le-mul-right, mod-lt, div-add-mod', mul-one, one-mul, eq-zero-or-pos, eq-or-lt-of-le, le-of-suc-le-suc, div-mul-le-self, mul-sub, div-eq-of-lt, mod-eq-of-lt, pow-suc}
 use native.Mathlib.Omega.{arith}
-use mathlib.Core.Bool.{Bool, true, false, not, cond}
+use mathlib.Core.Bool.{Bool, true, false, cond}
 use lib.Dec.{T, lit≤, lit<, ltb, ltb→lt}
 use lib.Pow.{pow-pos, pow-add, pow-mono}
 use lib.IntN.{pos}
-use lib.Ieee.{Float, nan, inf, fin, Format, binary32, binary64, ofBits, ofInt, toUnsigned, round, sub, mul, sum, up}
+use lib.Ieee.{Float, Format, binary32, binary64, ofBits, ofInt, toUnsigned, round, sub, mul, sum, up}
 use lib.Ieee.Exact.{HasValue}
 use lib.Ieee.Positive.{num, den, den-pos, value→cross}
-use Rattle.elementary.specs.Fraction.{Within, Frac, LeQ, oneQ}
-use Rattle.elementary.proofs.Ratio.{within-same}
+use Rattle.elementary.specs.Fraction.{Frac, LeQ, oneQ}
+use Rattle.elementary.proofs.Ratio.{Within, Near, within-same}
 use Rattle.exact.specs.Value.{plus}
-use Rattle.elementary.specs.Near.{Near}
 use Rattle.elementary.proofs.Errors.{errors, upper, lower, rest, big, small}
-use Rattle.elementary.proofs.Operations.{Fine, Range, round-within, mul-near}
+use Rattle.elementary.proofs.Operations.{Fine, Range, round-within, mul-near, open-sub}
 use Rattle.exact.proofs.Value.{value-plus}
 use Rattle.elementary.specs.Kernel.{kernel, powerUp, powerDown, Small}
-use Rattle.elementary.proofs.Horner.{Arg, half, fine, AtLeast, AtMost, range-of, within-atmost, within-atleast}
+use Rattle.elementary.proofs.Horner.{Arg, half, fine, AtLeast, AtMost, range-of, prod-least, prod-most, within-atmost, within-atleast}
 use Rattle.elementary.proofs.Scale.{field-value}
-use Rattle.elementary.proofs.Whole.{trunc-is, trunc-most, whole-value, ceil-le}
+use Rattle.elementary.proofs.Whole.{small-trunc, trunc-most, ceil-le}
+use Rattle.exact.proofs.Integrals.{whole-of}
 use Rattle.elementary.specs.Power.{series, ceil, E}
 use Rattle.elementary.proofs.Series.{kernel-near, kernel-val, series-pos, series-least, series-most, series-zero}
 
 -- ---- a difference that is not negative
-open-sub : (f : Format) (x y : Float) → T (plus x) → T (plus y) → sub f x y ≡ sum f false (num x * den y) true (num y * den x) (den x * den y)
-unfolding sub
-open-sub f nan y p q = absurd p
-open-sub f (inf s) y p q = absurd p
-open-sub f (fin true m e) y p q = absurd p
-open-sub f (fin false m e) nan p q = absurd q
-open-sub f (fin false m e) (inf t) p q = absurd q
-open-sub f (fin false m e) (fin true n d) p q = absurd q
-open-sub f (fin false m e) (fin false n d) p q = refl
-
 pick : (f : Format) (a b c : ℕ) → b ≤ a → sum f false a true b c ≡ round f false (a - b) c
 unfolding sum
 pick f a b c h = go (ltb a b) (ltb→lt a b)
@@ -113,12 +103,6 @@ value-most n d a c t C e h = le-of-mul-le-mul-right {k = c} (omega (arith, mul-l
 
 value-least : (n d a c t : ℕ) → 0 < c → n * c ≡ a * d → c ≤ a * t → d ≤ n * t
 value-least n d a c t C e h = le-of-mul-le-mul-right {k = c} (omega (arith, mul-le-mul-right d h, ap (λ (z : ℕ). z * t) e)) C
-
-prod-least : (a b c d s t : ℕ) → b ≤ a * s → d ≤ c * t → b * d ≤ a * c * (s * t)
-prod-least a b c d s t h k = omega (arith, mul-le-mul h k)
-
-prod-most : (a b c d s t : ℕ) → a ≤ b * s → c ≤ d * t → a * c ≤ b * d * (s * t)
-prod-most a b c d s t h k = omega (arith, mul-le-mul h k)
 
 pub power-near : (r : Float) (X : Frac) (p : Float) (n : ℕ) → Arg 1 r X → X .top ≤ X .bot → HasValue p false (2 ^ n) (2 ^ 1023) → 880 ≤ n → n ≤ 1200
     → Near big small (mul binary64 (kernel r) p) (series X .top * 2 ^ n) (series X .bot * 2 ^ 1023)
@@ -299,10 +283,10 @@ pub up-near : (y : Float) → Small 128 y → Near big small (powerUp y) (E fals
 unfolding powerUp
 up-near y h =
     let n = toUnsigned 64 y in
-    let q : n ≡ num y / den y = trunc-is 128 y (lit≤ tt) h in
-    let N : n ≤ 1000 = le-trans (trunc-most 128 n y (lit≤ tt) h refl) (lit≤ tt) in
+    let q : n ≡ num y / den y = small-trunc y h in
+    let N : n ≤ 2 ^ 53 = le-trans (trunc-most n y h refl) (lit≤ tt) in
     let k = ofInt binary64 (pos n) in
-    let v : HasValue k false (num y / den y) 1 = subst (λ (x : ℕ). HasValue k false x 1) q (whole-value n N) in
+    let v : HasValue k false (num y / den y) 1 = subst (λ (x : ℕ). HasValue k false x 1) q (whole-of binary64 n N) in
     subst (λ (x : ℕ). Near big small (mul binary64 (kernel (sub binary64 y k)) (ofBits binary64 ((x + 1023) * 4503599627370496))) (E false (num y) (den y) .top) (E false (num y) (den y) .bot)) (sym q)
     (exp2-up y k (h .sign) (h .digits) (h .most) v)
 
@@ -310,8 +294,8 @@ pub down-near : (y : Float) → Small 128 y → Near big small (powerDown y) (E 
 unfolding powerDown
 down-near y h =
     let n = ceil (num y) (den y) in
-    let N : n ≤ 1000 = le-trans (ceil-le 128 (num y) (den y) (den-pos y) (h .most)) (lit≤ tt) in
-    exp2-down y (ofInt binary64 (pos n)) (h .sign) (h .digits) (h .most) (whole-value n N)
+    let N : n ≤ 2 ^ 53 = le-trans (ceil-le 128 (num y) (den y) (den-pos y) (h .most)) (lit≤ tt) in
+    exp2-down y (ofInt binary64 (pos n)) (h .sign) (h .digits) (h .most) (whole-of binary64 n N)
 
 pub E-pos : (s : Bool) (a c : ℕ) → 0 < c → 0 < E s a c .bot
 unfolding E

@@ -1,9 +1,25 @@
--- Two fractions a / b and c / d that differ at most by the factor u / v. Nothing here is about floats. Assumes nothing.
-use mathlib.Core.Path.{_≡_, refl, sym, ap, _∙_, subst}
-use Prim.Native.Nat.{ℕ, zero, suc, _+_, _*_, _^_, _≤_, _<_}
-use native.Mathlib.Nat.{le-refl, le-trans, le-of-eq, mul-pos, mul-comm, mul-assoc, mul-left-comm, mul-right-comm, mul-le-mul-right, mul-le-mul-left, mul-le-mul, le-of-mul-le-mul-right}
+-- Two fractions a / b and c / d that differ at most by the factor u / v, and a float near a fraction. Assumes nothing.
+use mathlib.Core.Path.{_≡_, ap, subst}
+use Prim.Native.Nat.{ℕ, _+_, _*_, _≤_, _<_}
+use native.Mathlib.Nat.{mul-comm, mul-le-mul-right, mul-le-mul-left, mul-le-mul, le-of-mul-le-mul-right}
 use native.Mathlib.Omega.{arith}
-use Rattle.elementary.specs.Fraction.{Le, Within}
+use lib.Dec.{T}
+use lib.Ieee.{Float}
+use lib.Ieee.Positive.{num, den}
+use Rattle.exact.specs.Value.{plus}
+
+-- a / b ≤ u / v * (c / d)
+abbrev pub Le : ℕ → ℕ → ℕ → ℕ → ℕ → ℕ → Type 0
+Le u v a b c d = a * d * v ≤ c * b * u
+
+-- each is at most u / v times the other
+abbrev pub Within : ℕ → ℕ → ℕ → ℕ → ℕ → ℕ → Type 0
+Within u v a b c d = Le u v a b c d × Le u v c d a b
+
+-- x is finite, not negative, and within u / v of the fraction a / c
+pub record Near (u v : ℕ) (x : Float) (a c : ℕ) : Type 0 where
+  pub sign : T (plus x)
+  pub within : Within u v (num x) (den x) a c
 
 pub le-trans-ratio : (u v u' v' a b c d e f : ℕ) → 0 < d → Le u v a b c d → Le u' v' c d e f → Le (u * u') (v * v') a b e f
 le-trans-ratio u v u' v' a b c d e f D h k =

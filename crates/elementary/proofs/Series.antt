@@ -1,23 +1,20 @@
 -- The power series of 2 ^ r through the 20th power, in fractions, and its float form through the 12th.
-use mathlib.Core.Path.{_≡_, refl, sym, ap, ap₂, _∙_, subst, subst₂}
+use mathlib.Core.Path.{_≡_, refl, sym, subst, subst₂}
 use mathlib.Core.Bool.{Bool, true, false, _&&_}
 use mathlib.Core.List.{List, [], _∷_, _++_}
-use Prim.Native.Nat.{ℕ, zero, suc, _+_, _-_, _*_, _/_, _^_, _≤_, _<_}
-use native.Mathlib.Nat.{le-trans, mul-pos, mul-comm}
+use Prim.Native.Nat.{ℕ, _+_, _*_, _^_, _≤_, _<_}
 use native.Mathlib.Omega.{arith}
 use lib.Dec.{T, leb, leb→le, lit≤, lit<, ltb, ltb→lt}
-use lib.ListN.{length}
-use lib.Ieee.{Float, binary64, ofBits}
+use lib.Ieee.{Float, ofBits}
 use lib.Ieee.Fits.{and-l, and-r}
-use lib.Ieee.Positive.{num, den, den-pos}
-use Rattle.elementary.specs.Fraction.{Within, LeQ, oneQ, Frac, plusQ, timesQ, hornerQ}
-use Rattle.elementary.proofs.Ratio.{within-trans}
+use lib.Ieee.Positive.{num, den}
+use Rattle.elementary.specs.Fraction.{LeQ, oneQ, Frac, hornerQ}
+use Rattle.elementary.proofs.Ratio.{Near, within-trans}
 use Rattle.exact.specs.Value.{plus}
-use Rattle.elementary.specs.Near.{Near}
 use Rattle.elementary.proofs.Errors.{errors, upper, lower, rest}
 use Rattle.elementary.proofs.Truncation.{leQ-trans, horner-mono, horner-pos, Pos, cut-within, least-one}
-use Rattle.elementary.specs.Kernel.{hornerF, one, floats, kernel}
-use Rattle.elementary.proofs.Horner.{Coef, Coefs, Arg, Val, horner-near, AtLeast, AtMost}
+use Rattle.elementary.specs.Kernel.{one, floats, kernel}
+use Rattle.elementary.proofs.Horner.{Coef, Coefs, Arg, Val, horner-near}
 use Rattle.elementary.specs.Power.{coef, coefs, series, E}
 
 -- ---- the tests that the checker computes

@@ -1,25 +1,17 @@
 -- E of a negative number, by that of 128 less. Assumes nothing.
-use mathlib.Core.Path.{_≡_, refl, sym, ap, ap₂, _∙_, subst, subst₂}
-use Prim.Native.Nat.{ℕ, zero, suc, _+_, _-_, _*_, _/_, _%_, _^_, _≤_, _<_}
-use native.Mathlib.Nat.{le-refl, le-trans, le-of-eq, le-of-lt, mul-pos, mul-comm, mul-assoc, mul-left-comm, mul-right-comm, mul-le-mul-right, mul-le-mul-left, le-of-mul-le-mul-right, le-of-suc-le-suc, mod-lt, div-add-mod', div-mul-le-self, div-lt-iff-lt-mul, mul-sub}
+use mathlib.Core.Path.{_≡_, sym, ap, ap₂, _∙_, subst, subst₂}
+use Prim.Native.Nat.{ℕ, _+_, _-_, _*_, _/_, _%_, _^_, _≤_, _<_}
+use native.Mathlib.Nat.{le-trans, le-of-eq, mul-pos, mul-comm, mul-assoc, mul-left-comm, mul-le-mul-right, le-of-mul-le-mul-right, le-of-suc-le-suc, div-mul-le-self, div-lt-iff-lt-mul, mul-sub}
 use native.Mathlib.Omega.{arith}
-use mathlib.Core.Bool.{Bool, true, false}
-use lib.Dec.{T, lit≤, lit<}
+use mathlib.Core.Bool.{true, false}
+use lib.Dec.{T, lit≤}
 use lib.Arith.{digits-div, digits-mod}
 use lib.Pow.{pow-pos, pow-add}
-use lib.Ieee.{Float, binary64, ofBits, sub, mul}
-use lib.Ieee.Exact.{HasValue}
-use lib.Ieee.Positive.{num, den, den-pos}
-use Rattle.elementary.specs.Fraction.{Le, Within, over}
-use Rattle.elementary.proofs.Ratio.{within-trans, within-sym}
-use Rattle.exact.specs.Value.{plus}
-use Rattle.elementary.specs.Near.{Near}
-use Rattle.elementary.proofs.Errors.{upper, lower, big, small}
+use Rattle.elementary.specs.Fraction.{over}
+use Rattle.elementary.proofs.Ratio.{Le, Within, within-trans, within-sym}
 use Rattle.elementary.specs.Power.{series, E, ceil}
-use Rattle.elementary.proofs.Series.{series-pos}
-use Rattle.elementary.specs.Kernel.{kernel}
 use Rattle.elementary.proofs.Lipschitz.{E-cont}
-use Rattle.elementary.proofs.Powers.{E-pos, ceil-ge, exp2-down}
+use Rattle.elementary.proofs.Powers.{E-pos, ceil-ge}
 use Rattle.elementary.proofs.Near.{E-scale, close-by}
 
 ceil-128 : (a c : ℕ) → 0 < c → a ≤ 128 * c → ceil a c ≤ 128

@@ -18,6 +18,7 @@ use Rattle.exact.specs.Narrow.{narrowed}
 use Rattle.exact.proofs.Rounding.{closest-hi, closest-lo}
 use Rattle.elementary.specs.Fraction.{Frac, over, plusQ, timesQ, LeQ}
 use Rattle.elementary.specs.Trigonometric.{Absolute, bound}
+use Rattle.elementary.proofs.Operations.{open-sub}
 use Rattle.elementary.proofs.Truncation.{leQ-trans, leQ-refl, plus-mono, times-mono}
 use Rattle.elementary.proofs.Difference.{exact}
 
@@ -233,16 +234,6 @@ exact-apart a b c d h =
     let z = exact a b c d h in
     let q = over (a * d - c * b) (b * d) in
     (by-eq refl (plus-zero (over a b)) (z .0), by-eq refl (ap (λ (y : Frac). plusQ q y) (plus-zero (over c d))) (z .1))
-
-open-sub : (f : Format) (x y : Float) → T (plus x) → T (plus y) → sub f x y ≡ sum f false (num x * den y) true (num y * den x) (den x * den y)
-unfolding sub
-open-sub f nan y p q = absurd p
-open-sub f (inf s) y p q = absurd p
-open-sub f (fin true m e) y p q = absurd p
-open-sub f (fin false m e) nan p q = absurd q
-open-sub f (fin false m e) (inf t) p q = absurd q
-open-sub f (fin false m e) (fin true n d) p q = absurd q
-open-sub f (fin false m e) (fin false n d) p q = refl
 
 sub-room : (n d m e u : ℕ) → 0 < e → n < d * u → n * e - m * d < d * e * u
 sub-room n d m e u E h = omega (arith, mul-lt-mul-of-pos-right h E)

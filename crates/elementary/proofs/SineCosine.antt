@@ -4,17 +4,17 @@ use Prim.Native.Nat.{ℕ, _+_, _*_, _^_, _≤_, _<_}
 use native.Mathlib.Nat.{mul-pos, mul-le-mul-right, mul-le-mul, one-le-pow}
 use native.Mathlib.Omega.{arith}
 use lib.Dec.{lit≤, lit<}
-use lib.Ieee.{Float, binary64, ofBits, mul, sub}
+use lib.Ieee.{Float, binary64, ofBits, mul}
 use lib.Ieee.Positive.{num, den, den-pos}
 use Rattle.exact.specs.Narrow.{narrowed}
 use Rattle.elementary.specs.Fraction.{Frac, plusQ, timesQ, hornerQ, LeQ, over}
-use Rattle.elementary.specs.Kernel.{one, hornerF}
-use Rattle.elementary.specs.Trigonometric.{plusTerms, minusTerms, Absolute, bound, overSix, overTwo, sinePlus, sineMinus, cosinePlus, cosineMinus}
+use Rattle.elementary.specs.Kernel.{one}
+use Rattle.elementary.specs.Trigonometric.{plusTerms, minusTerms, Absolute, bound, overSix, overTwo, sinePlus, sineMinus, cosinePlus, cosineMinus, sineSum, cosineSum}
 use Rattle.elementary.proofs.Series.{coef-of, coefs-of}
 use Rattle.elementary.proofs.Truncation.{leQ-trans, leQ-refl, plus-mono, times-mono}
 use Rattle.elementary.proofs.Signed.{Differs, size-of, by-eq, plus-zero, mul-differs, narrowed-differs, differs-from, differs-weaken, differs-most, absolute-of}
 use Rattle.elementary.proofs.Terms.{inv, every4, powQ, plusPart, minusPart, plusPart-pos, minusPart-pos, terms-pos, plusTerms-to, plusTerms-from, minusTerms-to, minusTerms-from, no-power, one-power, Level, cosine-level, sine-level}
-use Rattle.elementary.proofs.Trigonometry.{Argument, Poly, Pair, second, fourth, between, p-eight, n-eight}
+use Rattle.elementary.proofs.Trigonometry.{Argument, Poly, Pair, between, p-eight, n-eight}
 
 -- ---- the two pairs of polynomials
 sine-plus : Poly 1 one sinePlus (every4 5 4) (inv 21) (every4 25 2)
@@ -85,30 +85,24 @@ module _ (k : ℕ) (x : Float) where
       below-four n d D h = omega arith
 
 -- ---- the cosine
-abbrev pub cosine-core : Float → Float
-cosine-core x = sub binary64 (hornerF (fourth x) one cosinePlus) (mul binary64 (second x) (hornerF (fourth x) overTwo cosineMinus))
-
-pub cosine-absolute : (x : Float) → Argument x → Absolute (plusTerms 0 (size-of x)) (minusTerms 0 (size-of x)) (narrowed (cosine-core x))
+pub cosine-absolute : (x : Float) → Argument x → Absolute (plusTerms 0 (size-of x)) (minusTerms 0 (size-of x)) (narrowed (cosineSum x))
 cosine-absolute x S =
     let X = size-of x in
-    let d = cosine-core x in
+    let d = cosineSum x in
     narrowed-absolute 0 x cosine-level (S .most) d
     (differs-weaken (plusTerms 0 X) (minusTerms 0 X) (plusQ (plusQ (over 7 268435456) (over 0 1)) (over 0 1)) (plusTerms-pos 0 x) (minusTerms-pos 0 x) (lit< tt) (over 24 268435456) d (lit< tt) (lit≤ tt)
     (to-series 0 x (over 7 268435456) d (lit< tt)
     (subst₂ (λ (p n : Frac). Differs p n (over 7 268435456) d) (sym (no-power X (den-pos x) (plusPart 0 X))) (sym (no-power X (den-pos x) (minusPart 0 X))) (between 0 one cosinePlus overTwo cosineMinus cosine-pair x S))))
 
 -- ---- the sine
-abbrev pub sine-core : Float → Float
-sine-core x = sub binary64 (hornerF (fourth x) one sinePlus) (mul binary64 (second x) (hornerF (fourth x) overSix sineMinus))
-
-pub sine-between : (x : Float) → Argument x → Differs (plusPart 1 (size-of x)) (minusPart 1 (size-of x)) (over 7 268435456) (sine-core x)
+pub sine-between : (x : Float) → Argument x → Differs (plusPart 1 (size-of x)) (minusPart 1 (size-of x)) (over 7 268435456) (sineSum x)
 sine-between x S = between 1 one sinePlus overSix sineMinus sine-pair x S
 
 -- the factor of x is less than 16, so the product is less than 64
-pub product-under : (x : Float) → Argument x → num x * num (sine-core x) < den x * den (sine-core x) * 2 ^ 6
+pub product-under : (x : Float) → Argument x → num x * num (sineSum x) < den x * den (sineSum x) * 2 ^ 6
 product-under x S =
     let X = size-of x in
-    let d = sine-core x in
+    let d = sineSum x in
     let p = plusPart 1 X in
     let n = minusPart 1 X in
     let P = plusPart-pos X (den-pos x) 1 in
@@ -124,10 +118,10 @@ product-under x S =
         let l : c ≤ 9 * d = omega arith in
         omega (arith, mul-le-mul h l, mul-pos B D)
 
-pub sine-absolute : (x : Float) → Argument x → Absolute (plusTerms 1 (size-of x)) (minusTerms 1 (size-of x)) (narrowed (mul binary64 x (sine-core x)))
+pub sine-absolute : (x : Float) → Argument x → Absolute (plusTerms 1 (size-of x)) (minusTerms 1 (size-of x)) (narrowed (mul binary64 x (sineSum x)))
 sine-absolute x S =
     let X = size-of x in
-    let d = sine-core x in
+    let d = sineSum x in
     let y = mul binary64 x d in
     let e = plusQ (timesQ X (over 7 268435456)) (over 1 281474976710656) in
     narrowed-absolute 1 x sine-level (S .most) y

@@ -13,12 +13,11 @@ use lib.Ieee.Positive.{num, den, den-pos}
 use Rattle.exact.specs.Value.{plus}
 use Rattle.exact.specs.Narrow.{narrowed}
 use Rattle.exact.proofs.Narrowing.{narrowed-plus}
-use Rattle.elementary.specs.Fraction.{Within, Frac, plusQ, timesQ, hornerQ, LeQ, over, oneQ}
+use Rattle.elementary.specs.Fraction.{Frac, plusQ, timesQ, hornerQ, LeQ, over, oneQ}
 use Rattle.elementary.specs.Kernel.{one}
-use Rattle.elementary.specs.Near.{Near}
 use Rattle.elementary.proofs.Errors.{upper, lower}
-use Rattle.elementary.specs.Trigonometric.{plusTerms, minusTerms, terms, Absolute, Relative, bound, more, less, overSix, sinePlus, sineMinus}
-use Rattle.elementary.proofs.Ratio.{within-refl, within-trans, within-weaken}
+use Rattle.elementary.specs.Trigonometric.{plusTerms, minusTerms, terms, Absolute, Relative, bound, more, less, overSix, sinePlus, sineMinus, sineSum}
+use Rattle.elementary.proofs.Ratio.{Within, Near, within-refl, within-trans, within-weaken}
 use Rattle.elementary.proofs.Operations.{Range, round-within, mul-near}
 use Rattle.elementary.proofs.Horner.{fine, range-of}
 use Rattle.elementary.proofs.Powers.{fine32, near-least, near-most}
@@ -27,7 +26,7 @@ use Rattle.elementary.proofs.Difference.{exact}
 use Rattle.elementary.proofs.Signed.{Differs, size-of, by-eq, plus-comm, plus-assoc, plus-right-comm, plus-cancel, times-in, times-out}
 use Rattle.elementary.proofs.Terms.{inv, every4, sq, plusPart, minusPart, plusPart-pos, minusPart-pos, terms-pos, terms-mono, plusPart-mono, minusPart-mono, plusTerms-to, plusTerms-from, minusTerms-to, minusTerms-from, one-power}
 use Rattle.elementary.proofs.Trigonometry.{Argument, p-eight}
-use Rattle.elementary.proofs.SineCosine.{sine-core, sine-between, product-under, sine-pair}
+use Rattle.elementary.proofs.SineCosine.{sine-between, product-under, sine-pair}
 
 -- ---- a part of s, where s is p - n
 relative-of : (s p n : Frac) (r : Float) → 0 < s .bot → 0 < p .bot → 0 < n .bot → T (plus r) → LeQ (plusQ s n) p → LeQ p (plusQ s n) → Within 4194305 4194304 (num r) (den r) (s .top) (s .bot) → Relative p n r
@@ -203,11 +202,11 @@ module _ (x : Float) (S : Argument x) (h : 2 * num x ≤ 3 * den x) where
             (leQ-trans (plusQ (g x) (n x)) (p x) (plusQ (plusQ q e₁) (n x)) (P x) (g-under x in-order) (by-eq refl (plus-assoc q e₁ (n x) ∙ ap (λ (z : Frac). plusQ q z) (plus-comm e₁ (n x))) (a .1))),
       )
 
-  core : T (plus (sine-core x)) × LeQ (size-of (sine-core x)) (plusQ (g x) e₁) × LeQ (g x) (plusQ (size-of (sine-core x)) e₁)
-  core = core-beside (sine-core x) (sine-between x S)
+  core : T (plus (sineSum x)) × LeQ (size-of (sineSum x)) (plusQ (g x) e₁) × LeQ (g x) (plusQ (size-of (sineSum x)) e₁)
+  core = core-beside (sineSum x) (sine-between x S)
 
-  core-near : Near 134217728 134217721 (sine-core x) (g x .top) (g x .bot)
-  core-near = record { sign = core .0; within = (hi (num (sine-core x)) (den (sine-core x)) (g x .top) (g x .bot) g-least (core .1), lo (num (sine-core x)) (den (sine-core x)) (g x .top) (g x .bot) g-least (core .2)) }
+  core-near : Near 134217728 134217721 (sineSum x) (g x .top) (g x .bot)
+  core-near = record { sign = core .0; within = (hi (num (sineSum x)) (den (sineSum x)) (g x .top) (g x .bot) g-least (core .1), lo (num (sineSum x)) (den (sineSum x)) (g x .top) (g x .bot) g-least (core .2)) }
     where
       hi : (a b c d : ℕ) → 1 * d ≤ c * 2 → a * (d * 268435456) ≤ (c * 268435456 + 7 * d) * b → a * d * 134217721 ≤ c * b * 134217728
       hi a b c d g h = omega (arith, mul-le-mul-right b g)
@@ -231,15 +230,15 @@ module _ (x : Float) (S : Argument x) (h : 2 * num x ≤ 3 * den x) where
       more-on a b = omega arith
 
   abbrev y : Float
-  y = mul binary64 x (sine-core x)
+  y = mul binary64 x (sineSum x)
 
-  product-range : Range binary64 4503599627370496 (num x * num (sine-core x)) (den x * den (sine-core x))
-  product-range = range-of (num x * num (sine-core x)) (den x * den (sine-core x)) 14 6
-      (inr (near-product (num x) (den x) (num (sine-core x)) (den (sine-core x)) (2 ^ 12) 4 (S .least) (near-least (num (sine-core x)) (den (sine-core x)) (g x .top) (g x .bot) 134217728 134217721 2 (lit< tt) (G x) (lit≤ tt) (core-near .within) g-floor)))
+  product-range : Range binary64 4503599627370496 (num x * num (sineSum x)) (den x * den (sineSum x))
+  product-range = range-of (num x * num (sineSum x)) (den x * den (sineSum x)) 14 6
+      (inr (near-product (num x) (den x) (num (sineSum x)) (den (sineSum x)) (2 ^ 12) 4 (S .least) (near-least (num (sineSum x)) (den (sineSum x)) (g x .top) (g x .bot) 134217728 134217721 2 (lit< tt) (G x) (lit≤ tt) (core-near .within) g-floor)))
       (le-of-lt (product-under x S)) (lit≤ tt) (lit≤ tt)
 
   y-near : Near (upper * (1 * 134217728)) (lower * (1 * 134217721)) y (num x * g x .top) (den x * g x .bot)
-  y-near = mul-near binary64 4503599627370496 lower 1 1 134217728 134217721 x (sine-core x) (num x) (den x) (g x .top) (g x .bot) fine (record { sign = S .sign; within = within-refl 1 1 (num x) (den x) (le-refl 1) }) core-near product-range
+  y-near = mul-near binary64 4503599627370496 lower 1 1 134217728 134217721 x (sineSum x) (num x) (den x) (g x .top) (g x .bot) fine (record { sign = S .sign; within = within-refl 1 1 (num x) (den x) (le-refl 1) }) core-near product-range
 
   y-range : Range binary32 4194304 (num y) (den y)
   y-range = record {

@@ -3,7 +3,7 @@ use mathlib.Core.Path.{_≡_, refl, sym, ap, subst}
 use mathlib.Core.Logic.{inr}
 use mathlib.Core.List.{List, [], _∷_, _++_}
 use Prim.Native.Nat.{ℕ, zero, suc, _+_, _*_, _^_, _≤_, _<_}
-use native.Mathlib.Nat.{le-refl, le-trans, le-of-eq, mul-pos, mul-comm, mul-le-mul-right, mul-le-mul-left, mul-le-mul, le-of-mul-le-mul-right, one-le-pow}
+use native.Mathlib.Nat.{le-trans, le-of-eq, mul-pos, mul-comm, mul-le-mul-right, mul-le-mul-left, mul-le-mul, le-of-mul-le-mul-right, one-le-pow}
 use native.Mathlib.Omega.{arith}
 use mathlib.Core.Bool.{false}
 use lib.Dec.{T, lit≤, lit<}
@@ -12,19 +12,17 @@ use lib.Pow.{pow-mono, pow-add}
 use lib.Ieee.{Float, binary64, mul, sub, round}
 use lib.Ieee.Positive.{num, den, den-pos}
 use Rattle.exact.specs.Value.{plus}
-use Rattle.elementary.specs.Fraction.{Within, Frac, plusQ, timesQ, hornerQ, LeQ, over}
+use Rattle.elementary.specs.Fraction.{Frac, plusQ, timesQ, hornerQ, LeQ, over}
 use Rattle.elementary.proofs.Errors.{errors, upper, lower}
 use Rattle.elementary.specs.Kernel.{hornerF}
-use Rattle.elementary.proofs.Ratio.{within-refl, within-weaken}
+use Rattle.elementary.specs.Trigonometric.{second, fourth}
+use Rattle.elementary.proofs.Ratio.{Within, within-weaken}
 use Rattle.elementary.proofs.Operations.{Range, mul-is, round-within}
-use Rattle.elementary.proofs.Horner.{Close, Arg, Val, Coef, Coefs, horner-near, half, fine, AtLeast, AtMost, range-of, close-up, mul-close, mul-most, within-atleast}
+use Rattle.elementary.proofs.Horner.{Close, Arg, Val, Coef, Coefs, horner-near, half, fine, AtLeast, AtMost, range-of, prod-least, prod-most, self-close, close-up, mul-close, mul-most, within-atleast}
 use Rattle.elementary.proofs.Truncation.{leQ-trans, leQ-refl, horner-mono, horner-pos, plus-mono, times-mono, cut-below}
 use Rattle.elementary.proofs.Difference.{rel-abs}
 use Rattle.elementary.proofs.Signed.{Differs, size-of, times-out, sub-differs, differs-from, differs-weaken}
 use Rattle.elementary.proofs.Terms.{inv, every4, sq, plusPart, minusPart, inv-pos, every4-pos, plusPart-pos, minusPart-pos}
-
-self-close : (x : Float) → T (plus x) → Close 0 x (over (num x) (den x))
-self-close x p = record { sign = p; within = within-refl 1 1 (num x) (den x) (le-refl 1) }
 
 -- ---- a cut series at an argument up to M
 carryM : (X q f g t : Frac) (M : ℕ) → X .top ≤ M * X .bot → LeQ f (plusQ g t) → LeQ (plusQ q (timesQ X f)) (plusQ (plusQ q (timesQ X g)) (over (M * t .top) (t .bot)))
@@ -71,21 +69,9 @@ mul-least t x y p q r h =
     subst (λ (w : Float). AtLeast (t + 1) w) (sym (mul-is binary64 x y p q))
     (subst (λ (w : ℕ). den z ≤ num z * w) (sym (pow-add 2 t 1)) (within-atleast lower (num z) (den z) (num x * num y) (den x * den y) (2 ^ t) (lit≤ tt) D' (round-within binary64 half lower (num x * num y) (den x * den y) fine D' r .1) h))
 
-prod-least : (a b c d s t : ℕ) → b ≤ a * s → d ≤ c * t → b * d ≤ a * c * (s * t)
-prod-least a b c d s t h k = omega (arith, mul-le-mul h k)
-
-prod-most : (a b c d s t : ℕ) → a ≤ b * s → c ≤ d * t → a * c ≤ b * d * (s * t)
-prod-most a b c d s t h k = omega (arith, mul-le-mul h k)
-
--- x ^ 4 exactly, and x ^ 2 and x ^ 4 in doubles
+-- x ^ 4 exactly
 abbrev pub W : Float → Frac
 W x = sq (sq (size-of x))
-
-abbrev pub second : Float → Float
-second x = mul binary64 x x
-
-abbrev pub fourth : Float → Float
-fourth x = mul binary64 (second x) (second x)
 
 module _ (x : Float) (S : Argument x) where
   x-most : num x ≤ den x * 2 ^ 2

@@ -1,10 +1,10 @@
 -- A polynomial with positive coefficients cut short, at an argument from 0 to 1. Assumes nothing.
-use mathlib.Core.Path.{_≡_, refl, sym, ap, ap₂, _∙_, subst, subst₂}
 use mathlib.Core.List.{List, [], _∷_, _++_}
-use Prim.Native.Nat.{ℕ, zero, suc, _+_, _-_, _*_, _/_, _^_, _≤_, _<_}
-use native.Mathlib.Nat.{le-refl, le-trans, le-of-eq, mul-pos, mul-comm, mul-assoc, mul-left-comm, mul-right-comm, mul-le-mul-right, mul-le-mul-left, mul-le-mul, le-of-mul-le-mul-right}
+use Prim.Native.Nat.{ℕ, _+_, _*_, _≤_, _<_}
+use native.Mathlib.Nat.{le-refl, mul-pos, mul-le-mul-right, mul-le-mul-left, mul-le-mul, le-of-mul-le-mul-right}
 use native.Mathlib.Omega.{arith}
-use Rattle.elementary.specs.Fraction.{Within, Frac, plusQ, timesQ, hornerQ, oneQ, LeQ}
+use Rattle.elementary.proofs.Ratio.{Within}
+use Rattle.elementary.specs.Fraction.{Frac, plusQ, timesQ, hornerQ, oneQ, LeQ}
 
 pub data Pos : List Frac → Type 0 where
   none : Pos []

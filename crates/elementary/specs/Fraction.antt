@@ -25,11 +25,3 @@ hornerQ x p (q ∷ qs) = plusQ p (timesQ x (hornerQ x q qs))
 -- the order of fractions
 abbrev pub LeQ : Frac → Frac → Type 0
 LeQ p q = p .top * q .bot ≤ q .top * p .bot
-
--- a / b ≤ u / v * (c / d)
-abbrev pub Le : ℕ → ℕ → ℕ → ℕ → ℕ → ℕ → Type 0
-Le u v a b c d = a * d * v ≤ c * b * u
-
--- each is at most u / v times the other
-abbrev pub Within : ℕ → ℕ → ℕ → ℕ → ℕ → ℕ → Type 0
-Within u v a b c d = Le u v a b c d × Le u v c d a b

@@ -1,7 +1,6 @@
 pub mod Fraction
 pub mod Power
 pub mod Kernel
-pub mod Near
 pub mod Promise
 pub mod Hyperbolic
 pub mod Logarithm

@@ -3,10 +3,11 @@ use mathlib.Core.Path.{_≡_}
 use mathlib.Core.Bool.{true, false}
 use mathlib.Core.List.{List, [], _∷_}
 use Prim.Native.Nat.{ℕ, zero, suc, _+_, _*_, _^_, _≤_}
-use lib.Ieee.{Float, nan, inf, fin, up, down, binary64, ofBits}
+use lib.Ieee.{Float, nan, inf, fin, up, down, binary64, ofBits, sub, mul}
 use lib.Ieee.Positive.{num, den}
 use Rattle.elementary.specs.Fraction.{Frac, over, plusQ, timesQ, LeQ}
 use Rattle.elementary.specs.Power.{fact}
+use Rattle.elementary.specs.Kernel.{hornerF, one}
 
 -- x ^ k / k!
 unfoldable pub term : ℕ → Frac → Frac
@@ -104,3 +105,16 @@ cosinePlus = ofBits binary64 0x3fa5555555555555 ∷ ofBits binary64 0x3efa01a01a
 
 abbrev pub cosineMinus : List Float
 cosineMinus = ofBits binary64 0x3f56c16c16c16c17 ∷ ofBits binary64 0x3e927e4fb7789f5c ∷ ofBits binary64 0x3da93974a8c07c9d ∷ ofBits binary64 0x3ca6827863b97d97 ∷ []
+
+abbrev pub second : Float → Float
+second x = mul binary64 x x
+
+abbrev pub fourth : Float → Float
+fourth x = mul binary64 (second x) (second x)
+
+-- the sine divided by x, and the cosine: the sum with a plus, less that with a minus times x ^ 2
+abbrev pub sineSum : Float → Float
+sineSum x = sub binary64 (hornerF (fourth x) one sinePlus) (mul binary64 (second x) (hornerF (fourth x) overSix sineMinus))
+
+abbrev pub cosineSum : Float → Float
+cosineSum x = sub binary64 (hornerF (fourth x) one cosinePlus) (mul binary64 (second x) (hornerF (fourth x) overTwo cosineMinus))

@@ -3,6 +3,7 @@
 ghost use mathlib.Core.Path.{_≡_};
 ghost use Rattle.elementary.specs.Kernel.{hornerF, one};
 ghost use Rattle.elementary.specs.Trigonometric.{overSix, overTwo, sinePlus, sineMinus, cosinePlus, cosineMinus, Sine, Cosine};
+ghost use Rattle.elementary.specs.Functions.{sinOf, cosOf};
 use exact::format::narrow;
 
 // The largest single that is not above 3.2.
@@ -63,7 +64,7 @@ fn cosine_minus(w: f64) -> f64
 
 // The sine of x.
 pub fn sin(x: f32) -> f32
-    ensures { λ r. ⌜ Sine x r ⌝ }
+    ensures { λ r. ⌜ (r ≡ sinOf x) × Sine x r ⌝ }
 {
     if x > LAST {
         return 0.0 / 0.0;
@@ -82,7 +83,7 @@ pub fn sin(x: f32) -> f32
 
 // The cosine of x.
 pub fn cos(x: f32) -> f32
-    ensures { λ r. ⌜ Cosine x r ⌝ }
+    ensures { λ r. ⌜ (r ≡ cosOf x) × Cosine x r ⌝ }
 {
     if x > LAST {
         return 0.0 / 0.0;

@@ -1,15 +1,16 @@
 -- The larger and the smaller of two floats, by tests of their order. Assumes nothing.
 use mathlib.Core.Path.{_≡_, refl, sym, ap₂, _∙_, subst}
-use Prim.Native.Nat.{ℕ, _+_, _-_, _*_, _≤_}
+use Prim.Native.Nat.{ℕ, _+_, _*_, _≤_}
 use native.Mathlib.Nat.{le-of-lt, zero-mul}
 use native.Mathlib.Omega.{arith}
-use mathlib.Core.Bool.{Bool, true, false, not, _&&_, _||_, Bool·beq, cond, true≢false}
+use mathlib.Core.Bool.{Bool, true, false, _&&_, _||_, Bool·beq, cond, true≢false}
 use borrow.Author.Tests.{le-ltb, ltb-true, ltb-false}
 use lib.IntN.{pos}
 use lib.Dec.{T, ltb, eqb, eqb→eq}
 use lib.Ieee.{Float, nan, inf, fin, binary32, up, down, isNan, fits, lt, eq, ne, below, level, add, sub, neg}
 use lib.Ieee.Compare.{differs-from-itself, nan-differs}
 use lib.Ieee.Fits.{down-pos, and-l}
+use Rattle.exact.proofs.Narrowing.{number}
 use Rattle.exact.proofs.Magnitude.{equals-zero, zero-form}
 use Rattle.exact.specs.Order.{smaller, chosen, maximum, minimum}
 
@@ -54,12 +55,6 @@ lt-second (inf s) (fin t n d) h = refl
 lt-second (fin s m e) nan h = sym h
 lt-second (fin s m e) (inf t) h = refl
 lt-second (fin s m e) (fin t n d) h = refl
-
-no-nan : (x : Float) → ne x x ≡ false → isNan x ≡ false
-unfolding isNan
-no-nan nan h = absurd (true≢false (sym nan-differs ∙ h))
-no-nan (inf s) h = refl
-no-nan (fin s m e) h = refl
 
 -- ---- `smaller`, by the tests
 or-no : (p q : Bool) → p ≡ false → (p || (q && false)) ≡ false
@@ -171,7 +166,7 @@ max-zeros x y f g h k n z =
 
 pub max-same : (x y : Float) → lt x y ≡ false → ne x x ≡ false → eq y (fin false 0 (pos 0)) ≡ false → x ≡ maximum x y
 unfolding maximum
-max-same x y h n z = takes-first (smaller x y) x y (smaller-level x y h (λ p q. true≢false (sym q ∙ z))) (no-nan x n)
+max-same x y h n z = takes-first (smaller x y) x y (smaller-level x y h (λ p q. true≢false (sym q ∙ z))) (number x n)
 
 pub min-first : (x y : Float) → lt x y ≡ true → x ≡ minimum x y
 unfolding minimum
@@ -193,4 +188,4 @@ min-zeros x y f g h k n z =
 
 pub min-same : (x y : Float) → lt y x ≡ false → ne x x ≡ false → eq y (fin false 0 (pos 0)) ≡ false → x ≡ minimum x y
 unfolding minimum
-min-same x y h n z = takes-first (smaller y x) x y (smaller-level y x h (λ p q. true≢false (sym p ∙ z))) (no-nan x n)
+min-same x y h n z = takes-first (smaller y x) x y (smaller-level y x h (λ p q. true≢false (sym p ∙ z))) (number x n)

@@ -18,7 +18,7 @@ use lib.Ieee.Scale.{round-same}
 use lib.Ieee.Positive.{num, den, den-pos, value→cross}
 use Rattle.exact.specs.Value.{plus}
 use Rattle.exact.specs.Integral.{Direction, floor, ceiling, towardZero, towardNegative, towardPositive, tiesToAway, integral, fraction}
-use Rattle.exact.proofs.Value.{value-plus}
+use Rattle.exact.proofs.Value.{value-plus, lt-plus}
 use Rattle.exact.proofs.Negation.{neg-round}
 
 -- a test's fact, from what it came to
@@ -197,7 +197,7 @@ short-word f x h = lt-of-lt-of-le (h .most) (mul-le-mul-right (den x) (le-trans 
 pub short-requires : (f : Format) (x : Float) → Short f x → T (lt (fin true 1 (pos 0)) x) × T (lt x (fin false 1 (pos 64)))
 short-requires f x h = trunc-requires x (h .sign) (short-word f x h)
 
-short-trunc : (f : Format) (x : Float) → Short f x → toUnsigned 64 x ≡ num x / den x
+pub short-trunc : (f : Format) (x : Float) → Short f x → toUnsigned 64 x ≡ num x / den x
 short-trunc f x h = trunc-is x (h .sign) (short-word f x h)
 
 integral-plus : (f : Format) (how : Direction) (x : Float) → T (plus x) → integral f how x ≡ round f false (how false (num x) (den x)) 1
@@ -210,6 +210,10 @@ integral-plus f how (fin false m e) p = refl
 pub whole-float : (f : Format) (n : ℕ) → n ≤ 2 ^ prec f → T (inFloat f (pos n))
 unfolding inFloat
 whole-float f n h = le→leb n (2 ^ prec f) h
+
+pub whole-of : (f : Format) (n : ℕ) → n ≤ 2 ^ prec f → HasValue (ofInt f (pos n)) false n 1
+unfolding ofInt
+whole-of f n h = round-whole f false n h
 
 cut : (f : Format) (x : Float) (n : ℕ) → Short f x → n ≡ toUnsigned 64 x → n < 2 ^ (prec f - 1)
 cut f x n h e = lt-of-le-of-lt (le-of-eq (e ∙ short-trunc f x h)) (div-lt-iff-lt-mul (den-pos x) .1 (h .most))
@@ -234,16 +238,6 @@ pub below-cut : (f : Format) (x : Float) (n : ℕ) → Short f x → n ≡ toUns
 below-cut f x n h e = whole-done f towardZero x n (h .sign) (e ∙ short-trunc f x h)
 
 -- the test for a fraction
-lt-plus : (x y : Float) → T (plus x) → T (plus y) → lt x y ≡ ltb (num x * den y) (num y * den x)
-unfolding lt
-lt-plus nan y p q = absurd p
-lt-plus (inf s) y p q = absurd p
-lt-plus (fin true m e) y p q = absurd p
-lt-plus (fin false m e) nan p q = absurd q
-lt-plus (fin false m e) (inf t) p q = absurd q
-lt-plus (fin false m e) (fin true n d) p q = absurd q
-lt-plus (fin false m e) (fin false n d) p q = refl
-
 more-than : (a c k K D : ℕ) → K * 1 ≡ k * D → K * c < a * D → k * c < a
 more-than a c k K D e h = lt-of-mul-lt-mul-right D (omega (arith, ap (λ (x : ℕ). x * c) e))
 
@@ -251,26 +245,32 @@ no-more : (a c k K D : ℕ) → 0 < D → K * 1 ≡ k * D → a * D ≤ K * c �
 no-more a c k K D P e h = le-of-mul-le-mul-right {k = D} (omega (arith, ap (λ (x : ℕ). x * c) e)) P
 
 cut-value : (f : Format) (x : Float) (n : ℕ) → Short f x → n ≡ toUnsigned 64 x → HasValue (ofInt f (pos n)) false n 1
-unfolding ofInt
-cut-value f x n h e = round-whole f false n (less n (2 ^ prec f) (cut-more f x n h e))
+cut-value f x n h e = whole-of f n (less n (2 ^ prec f) (cut-more f x n h e))
 
-pub above-next : (f : Format) (x : Float) (n : ℕ) → Short f x → n ≡ toUnsigned 64 x → lt (ofInt f (pos n)) x ≡ true → ofInt f (pos (n + 1)) ≡ integral f towardPositive x
-above-next f x n h e l =
+-- the least whole number that is not below x, by the whole part n
+pub next-ceiling : (f : Format) (x : Float) (n : ℕ) → Short f x → n ≡ toUnsigned 64 x → lt (ofInt f (pos n)) x ≡ true → n + 1 ≡ ceiling (num x) (den x)
+next-ceiling f x n h e l =
     let w = ofInt f (pos n) in
     let v = cut-value f x n h e in
     let q : n ≡ num x / den x = e ∙ short-trunc f x h in
     let o : num w * den x < num x * den w = ltb→lt (num w * den x) (num x * den w) (yes (sym (lt-plus w x (value-plus w n 1 v) (h .sign)) ∙ l)) in
     let c : num x / den x * den x < num x = subst (λ (z : ℕ). z * den x < num x) q (more-than (num x) (den x) n (num w) (den w) (value→cross w n 1 v) o) in
-    whole-done f towardPositive x (n + 1) (h .sign) (ap (λ (z : ℕ). z + 1) q ∙ ceiling-next (num x) (den x) (den-pos x) c)
+    ap (λ (z : ℕ). z + 1) q ∙ ceiling-next (num x) (den x) (den-pos x) c
 
-pub above-same : (f : Format) (x : Float) (n : ℕ) → Short f x → n ≡ toUnsigned 64 x → lt (ofInt f (pos n)) x ≡ false → ofInt f (pos n) ≡ integral f towardPositive x
-above-same f x n h e l =
+pub same-ceiling : (f : Format) (x : Float) (n : ℕ) → Short f x → n ≡ toUnsigned 64 x → lt (ofInt f (pos n)) x ≡ false → n ≡ ceiling (num x) (den x)
+same-ceiling f x n h e l =
     let w = ofInt f (pos n) in
     let v = cut-value f x n h e in
     let q : n ≡ num x / den x = e ∙ short-trunc f x h in
     let o : num x * den w ≤ num w * den x = nltb→le (num w * den x) (num x * den w) (no (sym (lt-plus w x (value-plus w n 1 v) (h .sign)) ∙ l)) in
     let c : num x ≤ num x / den x * den x = subst (λ (z : ℕ). num x ≤ z * den x) q (no-more (num x) (den x) n (num w) (den w) (den-pos w) (value→cross w n 1 v) o) in
-    whole-done f towardPositive x n (h .sign) (q ∙ ceiling-same (num x) (den x) (den-pos x) c)
+    q ∙ ceiling-same (num x) (den x) (den-pos x) c
+
+pub above-next : (f : Format) (x : Float) (n : ℕ) → Short f x → n ≡ toUnsigned 64 x → lt (ofInt f (pos n)) x ≡ true → ofInt f (pos (n + 1)) ≡ integral f towardPositive x
+above-next f x n h e l = whole-done f towardPositive x (n + 1) (h .sign) (next-ceiling f x n h e l)
+
+pub above-same : (f : Format) (x : Float) (n : ℕ) → Short f x → n ≡ toUnsigned 64 x → lt (ofInt f (pos n)) x ≡ false → ofInt f (pos n) ≡ integral f towardPositive x
+above-same f x n h e l = whole-done f towardPositive x n (h .sign) (same-ceiling f x n h e l)
 
 -- ---- twice a float is a float
 abbrev twice : ℕ → ℕ

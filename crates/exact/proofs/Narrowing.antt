@@ -1,21 +1,20 @@
 -- From an `f64`'s bit pattern to the pattern of the nearest `f32`. Assumes nothing.
-use mathlib.Core.Path.{_≡_, refl, sym, ap, ap₂, _∙_, subst, subst₂}
+use mathlib.Core.Path.{_≡_, refl, sym, ap, ap₂, _∙_, subst}
 use mathlib.Core.Logic.{_⊎_, inl, inr}
 use Prim.Native.Nat.{ℕ, zero, suc, _+_, _-_, _*_, _/_, _%_, _^_, _≤_, _<_, compare, Ordering, Ordering·lt, Ordering·eq, Ordering·gt}
-use native.Mathlib.Nat.{le-refl, le-trans, le-of-eq, le-of-lt, le-antisymm, lt-of-lt-of-le, lt-of-le-of-lt, lt-of-not-le, not-le-of-lt, le-of-suc-le-suc, mul-pos, mul-comm, mul-assoc, mul-left-comm, mul-right-comm, mul-le-mul-right, mul-le-mul-left, mul-le-mul, le-of-mul-le-mul-right, mod-lt, div-add-mod', mul-one, one-mul, zero-mul, mul-div-cancel, add-mul-div-right, mul-add-mod-self-right, mul-lt-mul-of-pos-right, add-comm, le-div-iff-mul-le, div-lt-iff-lt-mul, eq-or-lt-of-le, pow-suc, zero-add, div-one, mod-eq-of-lt, div-mul-le-self}
+use native.Mathlib.Nat.{le-refl, le-trans, le-of-eq, le-antisymm, lt-of-lt-of-le, lt-of-le-of-lt, lt-of-not-le, not-le-of-lt, le-of-suc-le-suc, mul-pos, mul-le-mul-right, mul-le-mul-left, mul-le-mul, mod-lt, div-add-mod', mul-one, one-mul, mul-div-cancel, add-mul-div-right, mul-add-mod-self-right, mul-lt-mul-of-pos-right, add-comm, le-div-iff-mul-le, div-lt-iff-lt-mul, eq-or-lt-of-le, pow-suc, zero-add, div-one, mod-eq-of-lt, div-mul-le-self}
 use native.Mathlib.Omega.{arith}
 use mathlib.Core.Bool.{Bool, true, false, not, _&&_, cond, true≢false}
-use lib.Dec.{T, leb, leb→le, lit≤, lit<, ltb, ltb→lt, eqb, nltb→le, not-T, eqb→eq, lt→ltb, le→leb}
+use lib.Dec.{T, leb, lit≤, lit<, ltb, ltb→lt, eqb, nltb→le, not-T, eqb→eq, lt→ltb, le→leb}
 use lib.Pow.{pow-pos, pow-add, pow-mono}
-use lib.Ieee.{Float, nan, inf, fin, Format, binary32, binary64, prec, emax, low, hid, ones, top, ofBits, toBits, ofFields, odd, units, round, nearest, size, up, down, neg, ne, div, fits, isNan, nanBits}
+use lib.Ieee.{Float, nan, inf, fin, Format, binary32, binary64, prec, low, hid, ofBits, toBits, ofFields, odd, units, round, nearest, size, up, down, neg, ne, div, fits, isNan, nanBits}
 use lib.Ieee.Compare.{differs-from-itself, nan-differs}
-use lib.Ieee.Digits.{size-lt, size-le, size-reaches}
-use lib.Ieee.Fits.{round-is, round-fits, down-pos, nearest-le}
+use lib.Ieee.Digits.{size-lt, size-le}
+use lib.Ieee.Fits.{round-is, round-fits, down-pos, nearest-le, fits-widens, and-i}
 use lib.Arith.{le→nltb, lt→nleb, digits-div, digits-mod}
 use lib.Ieee.Bits.{ofBits-toBits, cond-no, is-false, is-true, nanBits-above, nanBits-is, toBits-lt}
 use lib.Ieee.Exact.{HasValue, units-val, odd-sign}
 use lib.Ieee.Nearest.{closest, closest-same, nearest-ge}
-use lib.Ieee.Order.{drop, kept}
 use Rattle.exact.proofs.Rounding.{closest-hi, Cmp, cmp}
 use Rattle.exact.specs.Narrow.{narrowed}
 use Rattle.exact.specs.Value.{plus}
@@ -489,6 +488,17 @@ no-nan nan h = absurd (true≢false (sym nan-differs ∙ h))
 no-nan (inf s) h = tt
 no-nan (fin s m e) h = tt
 
+pub number : (x : Float) → ne x x ≡ false → isNan x ≡ false
+number x h = is-false (isNan x) (no-nan x h)
+
+-- what holds of a NaN holds of what differs from itself
+pub when-nan : (P : Float → Type 0) (x : Float) → ne x x ≡ true → P nan → P x
+when-nan P x h p = subst P (sym (differs-from-itself x (subst T (sym h) tt))) p
+
+-- what `x as f64` asks of an `f32`
+pub to-double : (x : Float) → T (fits binary32 x) → T (not (isNan x)) → T (fits binary64 x && not (isNan x))
+to-double x f n = and-i (fits binary64 x) (not (isNan x)) (fits-widens x f) n
+
 pub magnitude-most : (x : Float) → T (fits binary64 x) → T (not (isNan x)) → toBits binary64 x % 9223372036854775808 ≤ 9218868437227405312
 magnitude-most x f n = nltb→le 9218868437227405312 (toBits binary64 x % 9223372036854775808)
     (subst (λ (b : Bool). T (not b)) (nanBits-above binary64 (toBits binary64 x))
@@ -516,7 +526,7 @@ done-minus x r f g h =
 
 pub done-nan : (x : Float) → ne x x ≡ true → div binary32 (ofBits binary32 0) (ofBits binary32 0) ≡ narrowed x
 unfolding div ofBits narrowed
-done-nan x h = ap narrowed (sym (differs-from-itself x (subst T (sym h) tt)))
+done-nan x h = when-nan (λ (y : Float). nan ≡ narrowed y) x h refl
 
 -- ---- 29 digits dropped without a branch
 dropped : (b : ℕ) (o : Ordering) → Cmp o (b % 536870912 * 2) 536870912 → (b + 268435455 + b / 536870912 % 2) / 536870912 ≡ nearest (b / 536870912) o

@@ -10,13 +10,13 @@ use lib.Dec.{T, leb, ltb, leb→le, nleb→lt, lit≤, lit<, ltb→lt, lt→ltb,
 use lib.Pow.{pow-pos, pow-add, pow-mono, pow-lt}
 use lib.Ieee.{Float, nan, inf, fin, Format, binary32, binary64, prec, emax, low, up, down, size, nearest, odd, units, lt, fits, isNan, ofBits, toBits}
 use lib.Ieee.Digits.{size-lt, size-le, size-reaches}
-use lib.Ieee.Fits.{odd-fits, down-pos, up-pos, fits-widens, and-i}
+use lib.Ieee.Fits.{odd-fits, down-pos, up-pos, fits-widens}
 use lib.Ieee.Bits.{ofBits-toBits, is-true}
 use lib.Ieee.Exact.{HasValue, units-val}
 use lib.Ieee.Positive.{num, den, den-pos, value→cross, positive, positive-of-value}
 use Rattle.exact.specs.Root.{rootBy, root, rooted, squareRoot}
 use Rattle.exact.proofs.Rounding.{Cmp, cmp}
-use Rattle.exact.proofs.Narrowing.{size-is, toBits-value, pattern, bits-value}
+use Rattle.exact.proofs.Narrowing.{size-is, toBits-value, pattern, bits-value, to-double}
 use Rattle.exact.proofs.Integrals.{Held, held, nought, yes, no}
 
 -- ---- the root of a number, cut to a whole one
@@ -418,7 +418,7 @@ above-no-nan (inf s) a = tt
 above-no-nan (fin s m e) a = tt
 
 pub widens : (x : Float) → T (fits binary32 x) → lt nought x ≡ true → T (fits binary64 x && not (isNan x))
-widens x t a = and-i (fits binary64 x) (not (isNan x)) (fits-widens x t) (above-no-nan x a)
+widens x t a = to-double x t (above-no-nan x a)
 
 pub root-done : (x : Float) (r : ℕ) → T (fits binary32 x) → ofBits binary32 r ≡ squareRoot binary32 (ofBits binary64 (toBits binary64 x)) → ofBits binary32 r ≡ squareRoot binary32 x
 root-done x r t h = h ∙ ap (squareRoot binary32) (ofBits-toBits binary64 x (fits-widens x t))

@@ -1,12 +1,10 @@
-use mathlib.Core.Path.{_≡_, refl, sym, subst}
-use mathlib.Core.Bool.{not, true, false}
+use mathlib.Core.Path.{_≡_, refl}
+use mathlib.Core.Bool.{true}
 use borrow.Author.Needs.{needs}
 use lib.Dec.{T}
-use lib.Ieee.{Float, fits, binary32, binary64, ofBits, div, isNan, ne}
-use lib.Ieee.Bits.{is-false}
-use lib.Ieee.Compare.{differs-from-itself}
-use lib.Ieee.Fits.{fits-widens, and-i}
-use Rattle.exact.proofs.Narrowing.{no-nan}
+use lib.Ieee.{Float, fits, binary32, ofBits, div, isNan, ne}
+use Rattle.exact.proofs.Narrowing.{no-nan, number, when-nan, to-double}
+use Rattle.exact.proofs.Integrals.{yes}
 use Rattle.elementary.specs.Functions.{sinhOf}
 use Rattle.elementary.proofs.HalfDifference.{at-nan, below-first, above-last, between, small-between, sinh-between}
 use Rattle.elementary.proofs.hyperbolic.sinh.Statement.{statement}
@@ -15,13 +13,10 @@ use Rattle.elementary.proofs.hyperbolic.sinh.Tie as tie
 -- which branch of `sinhOf` each test picks
 at-nan-is : (x : Float) → ne x x ≡ true → x ≡ sinhOf x
 unfolding sinhOf isNan
-at-nan-is x h = subst (λ (y : Float). y ≡ sinhOf y) (sym (differs-from-itself x (subst T (sym h) tt))) refl
-
-number : (x : Float) → ne x x ≡ false → isNan x ≡ false
-number x h = is-false (isNan x) (no-nan x h)
+at-nan-is x h = when-nan (λ (y : Float). y ≡ sinhOf y) x h refl
 
 held : (c : tie.Start) → T (fits binary32 (c .args .x))
-held c = subst T (sym (c .good .0 .1)) tt
+held c = yes (c .good .0 .1)
 
 returns : tie.Need-returns
 returns c = (at-nan-is (c .before .args .x) (c .if1 .taken), at-nan (c .before .args .x) (c .if1 .taken))
@@ -40,7 +35,7 @@ returns-3 c = (
 float-to-float-y : tie.Need-float-to-float-y
 float-to-float-y c =
     let s = c .before .before .before .before in
-    and-i (fits binary64 (s .args .x)) (not (isNan (s .args .x))) (fits-widens (s .args .x) (held s)) (no-nan (s .args .x) (c .before .before .before .if1 .left))
+    to-double (s .args .x) (held s) (no-nan (s .args .x) (c .before .before .before .if1 .left))
 
 power-up-requires : tie.Need-power-up-requires
 unfolding ofBits

@@ -1,24 +1,24 @@
+use mathlib.Core.Logic.{inl, inr}
 use borrow.Author.Needs.{needs}
-use Rattle.exact.proofs.Narrowing.{no-nan}
+use lib.Ieee.{ofBits}
+use Rattle.elementary.specs.Logarithm.{guessOf}
 use Rattle.elementary.proofs.log.guess.Statement.{statement}
 use Rattle.elementary.proofs.log.guess.Tie as tie
 
+log-series-requires : tie.Need-log-series-requires
+log-series-requires c κs = search needs
+
+units-past-128-requires : tie.Need-units-past-128-requires
+units-past-128-requires c κs = search needs
+
 returns : tie.Need-returns
-returns c = search needs
-
-float-to-bits-wrapping-sub-u64 : tie.Need-float-to-bits-wrapping-sub-u64
-float-to-bits-wrapping-sub-u64 c = no-nan _ (c .if2 .left)
-
-wrapping-sub-u64-requires : tie.Need-wrapping-sub-u64-requires
-wrapping-sub-u64-requires c κs = search needs
-
-returns-2 : tie.Need-returns-2
-returns-2 c = search needs
-
-returns-3 : tie.Need-returns-3
-returns-3 c = search needs
+unfolding guessOf ofBits
+returns c =
+    let s = c .before in
+    elim (s .before .if1 .came) [
+      | inl a ↦ rw (c .units-past-128 .ensures, s .log-series .ensures, a .1, a .0 .taken)
+      | inr a ↦ rw (c .units-past-128 .ensures, s .log-series .ensures, a .1, a .0 .left)
+    ]
 
 pub guess-spec : {M : Type 1} → statement M
-guess-spec =
-    tie.close
-    (tie.spec returns float-to-bits-wrapping-sub-u64 wrapping-sub-u64-requires returns-2 returns-3)
+guess-spec = tie.close (tie.spec log-series-requires units-past-128-requires returns)

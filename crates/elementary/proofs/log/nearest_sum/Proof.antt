@@ -35,13 +35,13 @@ returns : tie.Need-returns
 returns c =
     let f = c .before in
     let s = f .before .before in
-    sum-below (s .args .n) (s .args .k) (f .fixed .result) (c .narrow .result) (omega arith) (f .fixed .ensures) (c .narrow .ensures)
+    rw (c .narrow .ensures, f .fixed .ensures) (sum-below (s .args .n) (s .args .k) (omega arith) (omega arith))
 
 returns-2 : tie.Need-returns-2
 returns-2 c =
     let f = c .before in
     let s = f .before .before in
-    sum-above (s .args .n) (s .args .k) (f .fixed2 .result) (c .narrow2 .result) (omega arith) (f .fixed2 .ensures) (c .narrow2 .ensures)
+    rw (c .narrow2 .ensures, f .fixed2 .ensures) (sum-above (s .args .n) (s .args .k) (omega arith) (omega arith) (omega arith))
 
 pub nearest-sum-spec : {M : Type 1} → statement M
 nearest-sum-spec =

@@ -1,6 +1,6 @@
-use mathlib.Core.Path.{sym, subst}
-use lib.Dec.{T, lit≤}
+use lib.Dec.{lit≤}
 use lib.Ieee.{binary32, binary64, ofBits, neg}
+use Rattle.exact.proofs.Integrals.{yes}
 use Rattle.elementary.specs.Functions.{expOf}
 use Rattle.elementary.proofs.ExpFn.{power-base}
 use Rattle.elementary.proofs.power.exp.Statement.{statement}
@@ -12,7 +12,7 @@ power-by-requires c κs = record { sign = tt; from = lit≤ tt; to = lit≤ tt; 
 
 returns : tie.Need-returns
 unfolding expOf ofBits neg
-returns c = (c .power-by .ensures, rw (c .power-by .ensures) (power-base 1442695040888963407 1000000000000000000 17 17 (ofBits binary64 0x3ff71547652b82fe) (neg (ofBits binary32 0x42aeac4f)) (ofBits binary32 0x42b00f33) (c .before .args .x) tt (subst T (sym (c .before .good .0 .1)) tt)))
+returns c = (c .power-by .ensures, rw (c .power-by .ensures) (power-base 1442695040888963407 1000000000000000000 17 17 (ofBits binary64 0x3ff71547652b82fe) (neg (ofBits binary32 0x42aeac4f)) (ofBits binary32 0x42b00f33) (c .before .args .x) tt (yes (c .before .good .0 .1))))
 
 pub exp-spec : {M : Type 1} → statement M
 exp-spec = tie.close (tie.spec power-by-requires returns)

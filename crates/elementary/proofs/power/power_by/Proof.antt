@@ -1,17 +1,16 @@
-use mathlib.Core.Path.{sym, ap, subst, _∙_}
-use mathlib.Core.Bool.{not}
+use mathlib.Core.Path.{ap, _∙_}
 use borrow.Author.Needs.{needs}
 use lib.Dec.{T}
-use lib.Ieee.{fits, binary32, binary64, ofBits, div, isNan}
-use lib.Ieee.Fits.{fits-widens, and-i}
+use lib.Ieee.{fits, binary32, ofBits, div}
 use Rattle.exact.specs.Narrow.{narrowed}
-use Rattle.exact.proofs.Narrowing.{no-nan}
+use Rattle.exact.proofs.Narrowing.{no-nan, to-double}
+use Rattle.exact.proofs.Integrals.{yes}
 use Rattle.elementary.proofs.ExpFn.{by-nan, by-under, by-over, by-down, by-up, by-one, ranged-down, ranged-up}
 use Rattle.elementary.proofs.power.power_by.Statement.{statement}
 use Rattle.elementary.proofs.power.power_by.Tie as tie
 
 held : (c : tie.Start) → T (fits binary32 (c .args .x))
-held c = subst T (sym (c .good .1 .1 .1 .0 .1)) tt
+held c = yes (c .good .1 .1 .1 .0 .1)
 
 returns : tie.Need-returns
 returns c = let a = c .before .args in by-nan (a .factor) (a .least) (a .most) (a .x) (c .if1 .taken)
@@ -27,7 +26,7 @@ returns-3 c = let a = c .before .before .before .args in by-over (a .factor) (a 
 float-to-float-y : tie.Need-float-to-float-y
 float-to-float-y c =
     let s = c .before .before .before .before in
-    and-i (fits binary64 (s .args .x)) (not (isNan (s .args .x))) (fits-widens (s .args .x) (held s)) (no-nan (s .args .x) (c .before .before .before .if1 .left))
+    to-double (s .args .x) (held s) (no-nan (s .args .x) (c .before .before .before .if1 .left))
 
 power-down-requires : tie.Need-power-down-requires
 unfolding ofBits
