@@ -1,7 +1,7 @@
 // The seven float functions under plain names, for programs in other languages: the Rust linked with these calls the port's
 // own, so that every bit of the two can be compared.
 ghost use mathlib.Core.Path.{_≡_};
-ghost use Rattle.elementary.specs.Functions.{exp2Of, expOf, pow10Of, sinhOf};
+ghost use Rattle.elementary.specs.Functions.{cosOf, exp2Of, expOf, log2Of, pow10Of, sinOf, sinhOf};
 ghost use Rattle.elementary.specs.Promise.{PowerOf};
 ghost use Rattle.elementary.specs.Hyperbolic.{Sinh};
 ghost use Rattle.elementary.specs.Logarithm.{Log2};
@@ -30,21 +30,21 @@ pub extern "C" fn fx_pow10(x: f32) -> f32
 
 #[no_mangle]
 pub extern "C" fn fx_log2(x: f32) -> f32
-    ensures { λ r. ⌜ Log2 x r ⌝ }
+    ensures { λ r. ⌜ (r ≡ log2Of x) × Log2 x r ⌝ }
 {
     elementary::log::log2(x)
 }
 
 #[no_mangle]
 pub extern "C" fn fx_sin(x: f32) -> f32
-    ensures { λ r. ⌜ Sine x r ⌝ }
+    ensures { λ r. ⌜ (r ≡ sinOf x) × Sine x r ⌝ }
 {
     elementary::trig::sin(x)
 }
 
 #[no_mangle]
 pub extern "C" fn fx_cos(x: f32) -> f32
-    ensures { λ r. ⌜ Cosine x r ⌝ }
+    ensures { λ r. ⌜ (r ≡ cosOf x) × Cosine x r ⌝ }
 {
     elementary::trig::cos(x)
 }
