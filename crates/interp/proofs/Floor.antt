@@ -1,0 +1,46 @@
+-- The floor of a position by its whole part. Assumes nothing.
+use mathlib.Core.Path.{_≡_, refl, sym, ap, _∙_}
+use mathlib.Core.Bool.{Bool, true, false, _&&_, true≢false}
+use Prim.Native.Nat.{ℕ, _*_, _/_, _^_, _≤_, _-_, min}
+use native.Mathlib.Nat.{zero-div}
+use native.Mathlib.Omega.{arith}
+use lib.Dec.{T, eqb, eqb→eq}
+use lib.IntN.{ℤ, pos}
+use lib.Ieee.Back.{round-whole, whole-unique}
+use lib.Ieee.Bits.{is-true}
+use lib.Ieee.Fits.{and-l, round-fits, eq→eqb}
+use lib.Ieee.{Float, nan, inf, fin, binary64, up, down, le, lt, eq, round, ofInt, ofBits, toUnsigned, fits}
+use Rattle.interp.specs.Position.{Position, floored, first}
+use Rattle.interp.proofs.Range.{position-within}
+
+-- a zero is its own floor
+pub floor-zero : (p : Float) → T (fits binary64 p) → T (eq p first) → p ≡ floored p
+unfolding eq ofBits floored
+floor-zero nan h t = absurd t
+floor-zero (inf s) h t = absurd t
+floor-zero (fin s m e) h t =
+    let z : m * up e * 1 ≡ 0 * 1 * down e = eqb→eq (m * up e * 1) (0 * 1 * down e) (and-l (eqb (m * up e * 1) (0 * 1 * down e)) _ t) in
+    let y : m * up e ≡ 0 = omega arith in
+    let q : m * up e / down e ≡ 0 = ap (λ (a : ℕ). a / down e) y ∙ zero-div (down e) in
+    rw q (whole-unique binary64 (fin s m e) (round binary64 s 0 1) s 0 h (round-fits binary64 s 0 1) (refl, omega arith) (round-whole binary64 s 0 (omega arith)))
+
+zero-eq : (m : ℕ) (e : ℤ) → 0 * 1 * down e ≡ m * up e * 1 → eq (fin true m e) first ≡ true
+unfolding eq ofBits
+zero-eq m e z =
+    let a : eqb (m * up e * 1) (0 * 1 * down e) ≡ true = is-true _ (eq→eqb (sym z)) in
+    let y : m * up e * 1 ≡ 0 = omega arith in
+    let b : eqb (m * up e * 1) 0 ≡ true = is-true _ (eq→eqb y) in
+    rw (a, b)
+
+-- any other position's is its whole part
+pub floor-whole : (p : Float) → Position p → eq p first ≡ false → ofInt binary64 (pos (toUnsigned 64 p)) ≡ floored p
+unfolding ofInt floored toUnsigned le lt ofBits
+floor-whole nan h n = absurd (h .high)
+floor-whole (inf true) h n = absurd (h .low)
+floor-whole (inf false) h n = absurd (h .high)
+floor-whole (fin true m e) h n =
+    absurd (true≢false (sym (zero-eq m e (eqb→eq (0 * 1 * down e) (m * up e * 1) (and-l (eqb (0 * 1 * down e) (m * up e * 1)) _ (h .low)))) ∙ n))
+floor-whole (fin false m e) h n =
+    let w : min (m * up e / down e) (2 ^ 64 - 1) ≤ 8589934592 = position-within (fin false m e) h .small in
+    let q : min (m * up e / down e) (2 ^ 64 - 1) ≡ m * up e / down e = omega arith in
+    ap (λ (a : ℕ). round binary64 false a 1) q

@@ -1,0 +1,12 @@
+pub mod Sign
+pub mod Range
+pub mod Floor
+pub mod Frames
+pub mod Table
+pub mod Taps
+pub mod Reading
+pub mod Ceiling
+pub mod Marked
+pub mod Difference
+pub mod Whole
+pub mod Looping

@@ -1,0 +1,17 @@
+use Rattle.interp.specs.Position.{fraction}
+use borrow.Author.Needs.{needs}
+use Rattle.interp.proofs.position.fraction.Statement.{statement}
+use Rattle.interp.proofs.position.fraction.Tie as tie
+
+floor-requires : tie.Need-floor-requires
+floor-requires c κs = search needs
+
+narrow-requires : tie.Need-narrow-requires
+narrow-requires c κs = search needs
+
+returns : tie.Need-returns
+unfolding fraction
+returns c = rw (c .narrow .ensures, c .before .floor .ensures)
+
+pub fraction-spec : {M : Type 1} → statement M
+fraction-spec = tie.close (tie.spec floor-requires narrow-requires returns)

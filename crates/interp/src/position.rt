@@ -1,0 +1,57 @@
+// A position in a sample: the frame at or before it, and what lies between the two.
+ghost use mathlib.Core.Path.{_≡_};
+ghost use Prim.Native.Nat.{_≤_};
+ghost use lib.Ieee.{toUnsigned};
+ghost use Rattle.interp.specs.Position.{Position, floored, fraction, isWhole, looped};
+use exact::format::narrow;
+
+// The frame at or before a position.
+pub fn frame_index(p: f64) -> u64
+    requires { ⌜ Position p ⌝ }
+    ensures { λ r. ⌜ (r ≡ toUnsigned 64 p) × (r ≤ 8589934592) ⌝ }
+{
+    std::num::truncating_f64_to_u64(p)
+}
+
+// Rust's `p.floor()` of a position.
+pub fn floor(p: f64) -> f64
+    requires { ⌜ Position p ⌝ }
+    ensures { λ r. ⌜ r ≡ floored p ⌝ }
+{
+    if p == 0.0 {
+        return p;
+    }
+    frame_index(p) as f64
+}
+
+// How far a position lies behind its frame.
+pub fn fraction(p: f64) -> f32
+    requires { ⌜ Position p ⌝ }
+    ensures { λ r. ⌜ r ≡ fraction p ⌝ }
+{
+    narrow(p - floor(p))
+}
+
+// Whether a position is a frame.
+pub fn is_whole(p: f64) -> bool
+    requires { ⌜ Position p ⌝ }
+    ensures { λ r. ⌜ r ≡ isWhole p ⌝ }
+{
+    p - floor(p) == 0.0
+}
+
+// A position in the loop from start to end: the loop's size comes off until the position is below end + 1. Each difference
+// is exact, so that all of them are one.
+pub fn wrap(p: f64, start: u32, end: u32) -> f64
+    requires { ⌜ Position p × (start ≤ end) ⌝ }
+    ensures { λ r. ⌜ (r ≡ looped start end p) × Position r ⌝ }
+{
+    let limit = (end as u64) + 1;
+    let t = frame_index(p);
+    if t < limit {
+        return p;
+    }
+    let size = limit - (start as u64);
+    let turns = (t - limit) / size + 1;
+    p - ((turns * size) as f64)
+}

@@ -1,0 +1,6 @@
+pub mod Region
+pub mod Valid
+pub mod Sample
+pub mod Bind
+pub mod Lookup
+pub mod Curve

@@ -1,0 +1,10 @@
+pub mod Asked
+pub mod Walks
+pub mod Search
+pub mod Packing
+pub mod Relist
+pub mod Yield
+pub mod Voices
+pub mod OffTimes
+pub mod Matching
+pub mod Laws

@@ -1,0 +1,15 @@
+use Rattle.session.specs.Removal.{stays}
+use Rattle.session.specs.Rules.{withoutSlots}
+use borrow.Author.Needs.{needs}
+use Rattle.session.proofs.remove_slots.Statement.{statement}
+use Rattle.session.proofs.remove_slots.Tie as tie
+
+remove-requires : tie.Need-remove-requires
+remove-requires c κs = search needs
+
+returns : tie.Need-returns
+unfolding withoutSlots stays
+returns c = c .remove .ensures
+
+pub remove-slots-spec : {M : Type 1} → statement M
+remove-slots-spec = tie.close (tie.spec remove-requires returns)

@@ -1,0 +1,18 @@
+use Rattle.session.specs.Records.{sharesNote}
+use borrow.Author.Needs.{needs}
+use Rattle.session.proofs.shares_note.Statement.{statement}
+use Rattle.session.proofs.shares_note.Tie as tie
+
+returns : tie.Need-returns
+unfolding sharesNote
+returns c = simp (c .if1 .taken)
+
+shares-both-requires : tie.Need-shares-both-requires
+shares-both-requires c κs = search needs
+
+returns-2 : tie.Need-returns-2
+unfolding sharesNote
+returns-2 c = simp (c .before .if1 .left, c .shares-both .ensures)
+
+pub shares-note-spec : {M : Type 1} → statement M
+shares-note-spec = tie.close (tie.spec returns shares-both-requires returns-2)
