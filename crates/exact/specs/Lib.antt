@@ -4,3 +4,4 @@ pub mod Integral
 pub mod Root
 pub mod Order
 pub mod Random
+pub mod Single

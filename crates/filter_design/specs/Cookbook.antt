@@ -4,7 +4,7 @@ use lib.Ieee.{Float, binary32, neg, ofBits}
 use Rattle.exact.specs.Root.{squareRoot}
 use Rattle.elementary.specs.Functions.{pow10Of, sinOf, cosOf}
 use Rattle.filter.specs.declared.Coefficients.{Coefficients}
-use Rattle.gain.specs.Single.{_⊕_, _⊖_, _⊗_, _⊘_, f0, f1}
+use Rattle.exact.specs.Single.{_⊕_, _⊖_, _⊗_, _⊘_, f0, f1}
 use Rattle.filter_design.specs.declared.cookbook.Angle.{Angle}
 use Rattle.filter_design.specs.declared.cookbook.Unscaled.{Unscaled}
 
@@ -30,7 +30,7 @@ angleOf freq q rate = record { «cos_w0» = cosOf (angular freq rate); alpha = s
 abbrev pub amplitude : Float → Float
 amplitude gain = pow10Of (gain ⊘ f40)
 
--- the three poles' coefficients that most designs share: 1 + alpha, -2 cos w0, 1 - alpha
+-- b0, b1 and b2 over the denominator that the first four designs share: a0 = 1 + alpha, a1 = -2 cos w0, a2 = 1 - alpha
 abbrev over : Float → Float → Float → Angle → Unscaled
 over b0 b1 b2 w = record { b0 = b0; b1 = b1; b2 = b2; a0 = f1 ⊕ w .alpha; a1 = neg f2 ⊗ w .«cos_w0»; a2 = f1 ⊖ w .alpha }
 

@@ -16,7 +16,7 @@ use Rattle.filter.specs.declared.Coefficients.{Coefficients}
 use Rattle.filter.specs.declared.FilterShape.{FilterShape}
 use Rattle.filter.specs.declared.FilterShape.the-variants.{Off, Lp1, Hp1, Biquad}
 use Rattle.filter.specs.declared.FilterSlot.{FilterSlot}
-use Rattle.gain.specs.Single.{_⊕_, _⊖_, _⊗_, _⊘_, single, f0, f0·5, f1}
+use Rattle.exact.specs.Single.{_⊕_, _⊖_, _⊗_, _⊘_, single, f0, f0·5, f1}
 use Rattle.gain.specs.Gain.{centsFactor, part}
 use Rattle.filter_design.specs.Cookbook.{f2, tau, angular, angleOf, amplitude, lowPass, highPass, bandPass, notch, peaking, lowShelf, highShelf, normalized}
 use Rattle.filter_design.specs.declared.slots.Filters.{Filters}

@@ -1,7 +1,7 @@
 // A region's filters and equaliser bands for one note at one rate, in the six slots of a player.
 ghost use mathlib.Core.Path.{_≡_};
 ghost use Prim.Native.Nat.{min};
-ghost use Rattle.filter_design.specs.Slots.{cutoffOf, qualityOf, poleOf, biquad, designed, filterShape, bandFrequency, bandQuality, equalized, bandShape, run, slotAt, sixOf};
+ghost use Rattle.filter_design.specs.Slots.{cutoffOf, qualityOf, poleOf, biquad, designed, filterShape, bandQuality, equalized, bandShape, run, slotAt, sixOf};
 use crate::cookbook::TAU;
 use crate::cookbook::biquad_bpf_coeffs;
 use crate::cookbook::biquad_high_shelf_coeffs;

@@ -6,7 +6,7 @@ use Prim.Native.Nat.{ℕ}
 use lib.Dec.{eqb}
 use lib.Ieee.{Float, binary32, mul, sub, div, neg, lt, ofBits, ofInt, toBits}
 use Rattle.exact.specs.Order.{magnitude}
-use Rattle.gain.specs.Single.{f0, f1, f100}
+use Rattle.exact.specs.Single.{f0, f1, f100}
 use Rattle.gain.specs.Gain.{velocityGain}
 use Rattle.gain.specs.declared.Curve.the-variants.{NoCurve}
 

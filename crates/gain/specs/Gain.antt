@@ -9,7 +9,7 @@ use Rattle.elementary.specs.Functions.{exp2Of, sinOf, cosOf}
 use Rattle.program.specs.declared.region.VelCrossfade.{VelCrossfade}
 use Rattle.program.specs.declared.region.XfVel.{XfVel}
 use Rattle.program.specs.declared.region.XfVel.the-variants.{NoCrossfade, Crossfade}
-use Rattle.gain.specs.Single.{_⊕_, _⊖_, _⊗_, _⊘_, single, f0, f0·5, f1, f100, f127, f1200}
+use Rattle.exact.specs.Single.{_⊕_, _⊖_, _⊗_, _⊘_, single, f0, f0·5, f1, f100, f127, f1200}
 use Rattle.gain.specs.declared.Curve.{Curve}
 use Rattle.gain.specs.declared.Curve.the-variants.{NoCurve, At}
 use Rattle.gain.specs.declared.Matrix.{Matrix}
@@ -81,7 +81,7 @@ halfPi = ofBits binary32 0x3fc9_0fdb
 abbrev pub overRootTwo : Float
 overRootTwo = ofBits binary32 0x3f35_04f3
 
--- 3 and 6 decibels, which make good what the pan, and the pan and the width, take in the middle
+-- 3 and 6 decibels: what the pan, and the pan with the width, take away in the middle
 abbrev pub monoPanGain : Float
 monoPanGain = ofBits binary32 0x3fb4_ce07
 
@@ -92,14 +92,14 @@ stereoPanGain = ofBits binary32 0x3fff_64c1
 unfoldable pub quarterTurn : Float → Float
 quarterTurn x = clamped ((x ⊘ f100 ⊕ f1) ⊗ f0·5) f0 f1 ⊗ halfPi
 
--- the two gains of a place, whose squares add up to 1
+-- the two gains of a place: but for rounding, their squares add up to 1
 abbrev pub leftGain : Float → Float
 leftGain x = cosOf (quarterTurn x)
 
 abbrev pub rightGain : Float → Float
 rightGain x = sinOf (quarterTurn x)
 
--- `pan` places a mono sample; of a stereo sample `width` sets first how much each side keeps and how much crosses over.
+-- `pan` places a mono sample. Of a stereo sample it scales the two sides, and then `width` sets how much of each stays and how much crosses over.
 unfoldable pub panMatrix : Float → Float → Bool → Matrix
 panMatrix pan width false = record { ll = leftGain pan ⊗ monoPanGain; rl = f0; lr = rightGain pan ⊗ monoPanGain; rr = f0 }
 panMatrix pan width true =

@@ -11,7 +11,7 @@ use lib.Ieee.Back.{round-whole}
 use lib.Ieee.Exact.{HasValue}
 use lib.Ieee.Fits.{down-pos}
 use lib.Ieee.{Float, nan, inf, fin, binary32, up, down, lt, ofInt, ofBits, toUnsigned}
-use Rattle.interp.specs.Single.{single, f0}
+use Rattle.exact.specs.Single.{single, f0}
 use Rattle.interp.specs.Span.{ceiling}
 use Rattle.interp.proofs.Range.{Within, plain}
 

@@ -8,7 +8,7 @@ use borrow.Author.Tests.{le-leb, lt-leb}
 use lib.Dec.{T, leb, leb→le, nleb→lt}
 use lib.ListN.{getD, length, List·getD-eq-default}
 use lib.Ieee.{Float}
-use Rattle.interp.specs.Single.{f0}
+use Rattle.exact.specs.Single.{f0}
 use Rattle.interp.specs.Points.{frameAt}
 
 -- what is given for outside does not matter inside

@@ -1,4 +1,3 @@
-pub mod Sign
 pub mod Range
 pub mod Floor
 pub mod Frames

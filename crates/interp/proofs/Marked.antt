@@ -7,7 +7,8 @@ use native.Mathlib.Omega.{arith}
 use lib.Dec.{eqb}
 use lib.Ieee.{Float, binary32, binary64, mul, add, sub, div, lt, eq, ofBits, toBits}
 use Rattle.exact.specs.Narrow.{narrowed}
-use Rattle.interp.specs.Single.{f0, f1, f2, magnitude}
+use Rattle.exact.specs.Single.{f0, f1, f2}
+use Rattle.exact.specs.Order.{magnitude}
 use Rattle.interp.specs.Points.{weight3}
 use Rattle.interp.specs.Span.{ceiling, stretchOf, spanFor}
 

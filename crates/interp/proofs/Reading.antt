@@ -4,7 +4,7 @@ use mathlib.Core.Bool.{Bool, true, false}
 use mathlib.Core.List.{List}
 use Prim.Native.Nat.{ℕ, _+_}
 use lib.Ieee.{Float, toUnsigned}
-use Rattle.interp.specs.Single.{f0}
+use Rattle.exact.specs.Single.{f0}
 use Rattle.interp.specs.Position.{fraction}
 use Rattle.interp.specs.Read.{kernelAt, readAt, pairAt}
 use Rattle.interp.specs.declared.Interp.{Interp}

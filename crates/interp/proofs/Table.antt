@@ -17,7 +17,8 @@ use lib.Ieee.Fits.{down-pos}
 use lib.Ieee.Order.{round-mono}
 use lib.Ieee.{Float, nan, inf, fin, Format, binary32, prec, emax, low, up, down, lt, le, eq, mul, round, units, odd, ofBits, toUnsigned, inUnsigned, inFloat}
 use Rattle.exact.specs.Value.{plus}
-use Rattle.interp.specs.Single.{_⊗_, _⊖_, single, f16, f512, f8193, magnitude}
+use Rattle.exact.specs.Single.{_⊗_, _⊖_, single, f16, f512, f8193}
+use Rattle.exact.specs.Order.{magnitude}
 use Rattle.interp.specs.Sinc.{windowAt, crossingsOf, tapped}
 use Rattle.interp.specs.Places.{placeOf, entryOf, partOf, tappedBy, Placed}
 use Rattle.interp.specs.declared.sinc.SincSpan.{SincSpan}

@@ -15,7 +15,7 @@ use lib.Ieee.Fits.{down-pos, round-fits, and-l, and-r}
 use lib.Ieee.Order.{round-mono}
 use lib.Ieee.Positive.{num, den, positive, between, own-value, values-of-le, positive-of-value}
 use lib.Ieee.{Float, nan, inf, fin, binary32, low, up, down, round, add, sub, sum, lt, le, eq, ofInt, ofBits, toUnsigned, fits}
-use Rattle.interp.specs.Single.{_⊕_, _⊖_, single, f1, f8193}
+use Rattle.exact.specs.Single.{_⊕_, _⊖_, single, f1, f8193}
 use Rattle.exact.specs.Value.{plus}
 use Rattle.interp.proofs.Difference.{differ}
 use Rattle.interp.proofs.Range.{at-most}

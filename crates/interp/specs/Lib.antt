@@ -1,4 +1,3 @@
-pub mod Single
 pub mod Position
 pub mod Points
 pub mod Span

@@ -6,7 +6,8 @@ use Prim.Native.Nat.{ℕ, _+_, _<_}
 use lib.Dec.{leb}
 use lib.ListN.{getD}
 use lib.Ieee.{Float, nan, lt, toUnsigned}
-use Rattle.interp.specs.Single.{_⊕_, _⊖_, _⊗_, single, f16, f512, f8193, magnitude}
+use Rattle.exact.specs.Single.{_⊕_, _⊖_, _⊗_, single, f16, f512, f8193}
+use Rattle.exact.specs.Order.{magnitude}
 use Rattle.interp.specs.Sinc.{crossingsOf}
 use Rattle.interp.specs.declared.sinc.SincSpan.{SincSpan}
 use Rattle.interp.specs.declared.sinc.Sums.{Sums}

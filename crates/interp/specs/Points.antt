@@ -5,7 +5,8 @@ use Prim.Native.Nat.{ℕ, _+_, _-_}
 use lib.Dec.{leb}
 use lib.ListN.{getD}
 use lib.Ieee.{Float, lt, neg}
-use Rattle.interp.specs.Single.{_⊕_, _⊖_, _⊗_, f0, f0·5, f1, f1·5, f2, f2·5, f4, magnitude}
+use Rattle.exact.specs.Single.{_⊕_, _⊖_, _⊗_, f0, f0·5, f1, f1·5, f2, f2·5, f4}
+use Rattle.exact.specs.Order.{magnitude}
 
 -- how many frames of silence a channel has in front: `PCM_PAD`
 abbrev pub pad : ℕ

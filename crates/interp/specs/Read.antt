@@ -3,7 +3,7 @@ use mathlib.Core.Bool.{Bool, cond}
 use mathlib.Core.List.{List}
 use Prim.Native.Nat.{ℕ, _+_}
 use lib.Ieee.{Float, eq, toUnsigned}
-use Rattle.interp.specs.Single.{f0, f1, f2}
+use Rattle.exact.specs.Single.{f0, f1, f2}
 use Rattle.interp.specs.Position.{fraction}
 use Rattle.interp.specs.Points.{pad, linearAt, hermiteAt}
 use Rattle.interp.specs.Sinc.{sincAt}

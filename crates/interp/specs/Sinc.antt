@@ -5,7 +5,8 @@ use mathlib.Core.List.{List}
 use Prim.Native.Nat.{ℕ, zero, suc, _+_, _-_, _*_}
 use lib.ListN.{getD}
 use lib.Ieee.{Float, nan, lt, ne, toUnsigned}
-use Rattle.interp.specs.Single.{_⊕_, _⊖_, _⊗_, _⊘_, single, f0, f1, f16, f512, magnitude}
+use Rattle.exact.specs.Single.{_⊕_, _⊖_, _⊗_, _⊘_, single, f0, f1, f16, f512}
+use Rattle.exact.specs.Order.{magnitude}
 use Rattle.interp.specs.Points.{frameAt}
 use Rattle.interp.specs.declared.sinc.SincSpan.{SincSpan}
 use Rattle.interp.specs.declared.sinc.Sums.{Sums}

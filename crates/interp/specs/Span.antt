@@ -3,7 +3,7 @@ use mathlib.Core.Bool.{true, false, cond}
 use Prim.Native.Nat.{ℕ, _+_, _-_, _*_, _/_, _^_, min}
 use lib.Ieee.{Float, nan, inf, fin, binary64, up, down, lt, ofBits}
 use Rattle.exact.specs.Narrow.{narrowed}
-use Rattle.interp.specs.Single.{_⊘_, f0·88, f1, f16}
+use Rattle.exact.specs.Single.{_⊘_, f0·88, f1, f16}
 use Rattle.interp.specs.declared.sinc.SincSpan.{SincSpan}
 
 -- the least whole number from x on, held to what 64 bits count; 0 for a NaN

@@ -1,27 +1,17 @@
 // The kernels of two and of four points.
 ghost use mathlib.Core.Path.{_≡_};
 ghost use Prim.Native.Nat.{_≤_};
-ghost use Rattle.interp.specs.Single.{magnitude};
 ghost use Rattle.interp.specs.Points.{weight3, frameAt, linearAt, hermiteAt};
+use exact::order::abs_f32;
 
 // How many frames of silence a channel has in front: places count from there, so that none that a kernel draws on is below 0.
 pub const PCM_PAD: usize = 42;
-
-// Rust's `x.abs()`.
-pub fn abs(x: f32) -> f32
-    ensures { λ r. ⌜ r ≡ magnitude x ⌝ }
-{
-    if x != x {
-        return x;
-    }
-    f32::from_bits(f32::to_bits(x) % 0x8000_0000)
-}
 
 // The Catmull-Rom weight at the distance x.
 pub fn hermite3(x: f32) -> f32
     ensures { λ r. ⌜ r ≡ weight3 x ⌝ }
 {
-    let d = abs(x);
+    let d = abs_f32(x);
     let d2 = d * d;
     let d3 = d2 * d;
     let q = 2.5 * d2;

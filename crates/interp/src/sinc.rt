@@ -5,13 +5,13 @@ ghost use lib.Dec.{T};
 ghost use lib.Ieee.{le, toUnsigned};
 ghost use lib.ListN.{length};
 ghost use Rattle.exact.specs.Value.{plus};
-ghost use Rattle.interp.specs.Single.{single, f8193};
+ghost use Rattle.exact.specs.Single.{single, f8193};
 ghost use Rattle.interp.specs.Span.{ceiling, stretchOf, spanFor};
 ghost use Rattle.interp.specs.Sinc.{crossingsOf, meanOf, sincAt, leftOf, rightOf};
 ghost use Rattle.interp.specs.Places.{placeOf, tappedBy, Placed};
-use crate::points::abs;
 use crate::points::frame_at;
 use exact::format::narrow;
+use exact::order::abs_f32;
 
 // What a step asks of the kernel: its cutoff, as a fraction of the sample's Nyquist frequency, and its taps on each side.
 pub struct SincSpan {
@@ -95,7 +95,7 @@ fn crossings(span: SincSpan, f: f32, k: u16) -> f32
 fn place(v: f32) -> f32
     ensures { λ r. ⌜ r ≡ placeOf v ⌝ }
 {
-    let u = abs(v);
+    let u = abs_f32(v);
     if u < 16.0 { u * 512.0 } else { 8193.0 }
 }
 

@@ -13,7 +13,7 @@ fade-shape-requires c κs = search needs
 
 returns-2 : tie.Need-returns-2
 unfolding fadedIn
-returns-2 c = rw (c .before .before .before .before .before .before .if1 .left, c .before .before .before .before .if2 .taken, c .before .before .if3 .taken, c .fade-shape .ensures)
+returns-2 c = simp (c .before .before .before .before .before .before .if1 .left, c .before .before .before .before .if2 .taken, c .before .before .if3 .taken, c .fade-shape .ensures)
 
 returns-3 : tie.Need-returns-3
 unfolding fadedIn

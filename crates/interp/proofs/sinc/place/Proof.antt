@@ -3,16 +3,16 @@ use borrow.Author.Needs.{needs}
 use Rattle.interp.proofs.sinc.place.Statement.{statement}
 use Rattle.interp.proofs.sinc.place.Tie as tie
 
-abs-requires : tie.Need-abs-requires
-abs-requires c κs = search needs
+abs-f32-requires : tie.Need-abs-f32-requires
+abs-f32-requires c κs = search needs
 
 returns : tie.Need-returns
 unfolding placeOf
-returns c = rw (← c .before .abs .ensures, c .if1 .taken)
+returns c = rw (← c .before .abs-f32 .ensures, c .if1 .taken)
 
 returns-2 : tie.Need-returns-2
 unfolding placeOf
-returns-2 c = rw (← c .before .abs .ensures, c .if1 .left)
+returns-2 c = rw (← c .before .abs-f32 .ensures, c .if1 .left)
 
 pub place-spec : {M : Type 1} → statement M
-place-spec = tie.close (tie.spec abs-requires returns returns-2)
+place-spec = tie.close (tie.spec abs-f32-requires returns returns-2)

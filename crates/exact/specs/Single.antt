@@ -1,8 +1,7 @@
 -- Single precision: each operation rounds on its own. Definitions only.
-use mathlib.Core.Bool.{false}
 use Prim.Native.Nat.{ℕ}
 use lib.IntN.{pos}
-use lib.Ieee.{Float, nan, inf, fin, binary32, add, sub, mul, div, ofBits, ofInt}
+use lib.Ieee.{Float, binary32, add, sub, mul, div, ofBits, ofInt}
 
 infixl 6 _⊕_
 infixl 6 _⊖_
@@ -24,7 +23,7 @@ a ⊘ b = div binary32 a b
 abbrev pub single : ℕ → Float
 single n = ofInt binary32 (pos n)
 
--- 0.0, 0.5, 0.88, 1.0, 1.5, 2.0, 2.5, 4.0, 16.0, 512.0 and 8193.0
+-- 0.0, 0.5, 0.88, 1.0, 1.5, 2.0, 2.5, 4.0, 16.0, 100.0, 127.0, 512.0, 1200.0 and 8193.0
 abbrev pub f0 : Float
 f0 = ofBits binary32 0
 
@@ -52,14 +51,17 @@ f4 = ofBits binary32 0x4080_0000
 abbrev pub f16 : Float
 f16 = ofBits binary32 0x4180_0000
 
+abbrev pub f100 : Float
+f100 = ofBits binary32 0x42c8_0000
+
+abbrev pub f127 : Float
+f127 = ofBits binary32 0x42fe_0000
+
 abbrev pub f512 : Float
 f512 = ofBits binary32 0x4400_0000
 
+abbrev pub f1200 : Float
+f1200 = ofBits binary32 0x4496_0000
+
 abbrev pub f8193 : Float
 f8193 = ofBits binary32 0x4600_0400
-
--- x without its sign
-unfoldable pub magnitude : Float → Float
-magnitude nan = nan
-magnitude (inf s) = inf false
-magnitude (fin s m e) = fin false m e
