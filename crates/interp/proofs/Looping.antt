@@ -57,7 +57,7 @@ grid-of (negsuc k) h =
     }
 
 -- ---- a whole number comes off
-double-value : (n : ℕ) → n ≤ 2 ^ 53 → HasValue (double n) false n 1
+pub double-value : (n : ℕ) → n ≤ 2 ^ 53 → HasValue (double n) false n 1
 unfolding ofInt
 double-value n h = round-whole binary64 false n h
 

@@ -1,15 +1,15 @@
 -- Laws over the records in use, for the crates above: what a marking, a removal, an entry and a taken off time leave as it was.
 -- Assumes nothing.
-use Prim.Native.Nat.{ℕ, zero, suc, _+_, _-_, _<_, _≤_}
+use Prim.Native.Nat.{ℕ, zero, suc, _<_, _≤_}
 use mathlib.Core.Path.{_≡_, refl, sym, ap, _∙_}
-use mathlib.Core.Bool.{Bool, true, false, not, _&&_, _||_}
+use mathlib.Core.Bool.{Bool, true, false, not, _&&_}
 use mathlib.Core.List.{List, [], _∷_, _++_, map}
 use native.Mathlib.Omega.{arith}
-use lib.ListN.{length, take, drop}
+use lib.ListN.{length}
 use lib.Dec.{eqb, ltb, leb}
-use borrow.Author.Tests.{eqb-true, eqb-false, eq-eqb, ne-eqb, lt-ltb, not-true, ltb-false}
-use Rattle.session.specs.Lists.{pick, keep, any, elem, changeIf, changeWhere, changeFirst}
-use Rattle.session.specs.Records.{marked, ended, collected, entered, chokedBy, sharesNote, mayYield, ofRegion, isSister, quieter, older, ofVoice, inSlots, waits, isSet}
+use borrow.Author.Tests.{eqb-true, ne-eqb, lt-ltb, le-ltb, not-true, ltb-false}
+use Rattle.session.specs.Lists.{pick, keep, any, elem, usedOf, changeIf, changeWhere, changeFirst}
+use Rattle.session.specs.Records.{marked, ended, collected, chokedBy, sharesNote, mayYield, ofRegion, isSister, quieter, older, ofVoice, inSlots, waits, isSet}
 use Rattle.session.specs.Rules.{choke, markSisters, lowest, orStop, yieldUp, limitNote, notePolyphony, endOldest, limitRegion, polyphony, startMarks, enter, withoutVoice, withoutSlots, collect, collectFirst, markEnded, countOf, surplusOf, slotsOf}
 use Rattle.session.specs.State.{view, withPlayers, relist, freshSession, liveIds}
 use Rattle.session.specs.Tests.{strayRecord, overVoice}
@@ -22,7 +22,9 @@ use Rattle.session.specs.declared.Session.{Session}
 use Rattle.session.specs.declared.Start.{Start}
 use Rattle.session.specs.declared.Victim.{Victim}
 use Rattle.session.specs.declared.Victim.the-variants.{Nobody, Sounding}
-use Rattle.session.proofs.Walks.{keep-append}
+use Rattle.session.proofs.Relist.{take-few}
+use Rattle.session.proofs.Voices.{keep-fewer}
+use Rattle.session.proofs.Walks.{keep-append, used-small}
 
 and-left : (a b : Bool) → a && b ≡ true → a ≡ true
 and-left true b e = refl
@@ -346,3 +348,16 @@ none-over s e h v = by-case (elem v (liveIds (s .voices))) refl where
   by-case : (t : Bool) → elem v (liveIds (s .voices)) ≡ t → length (recordsOf v (view s)) ≤ 32
   by-case true k = ltb-false 32 (length (recordsOf v (view s))) (among (liveIds (s .voices)) v (λ id. ltb 32 (countOf (ofVoice id) (view s))) k h)
   by-case false k = omega (arith, ap length (not-live-none s v e k))
+
+any-none : {A : Type 0} (p : A → Bool) → ((x : A) → p x ≡ false) → (xs : List A) → any p xs ≡ false
+any-none p h [] = refl
+any-none p h (x ∷ xs) = ap (λ t. pick t true (any p xs)) (h x) ∙ any-none p h xs
+
+-- a list of at most 32 records has no more of one voice
+pub over-few : (s : Session) → s .count ≤ 32 → false ≡ overVoice s
+unfolding overVoice
+over-few s h =
+    let n = used-small 512 (s .count) (omega arith) in
+    sym (any-none (λ id. ltb 32 (countOf (ofVoice id) (view s)))
+    (λ id. le-ltb 32 (countOf (ofVoice id) (view s)) (omega (arith, keep-fewer (ofVoice id) (view s), take-few (usedOf 512 (s .count)) (s .players), n)))
+    (liveIds (s .voices)))

@@ -1,30 +1,24 @@
 -- A voice's own off times. Assumes nothing.
-use Prim.Native.Nat.{ℕ, zero, suc, _+_, _-_, _<_, _≤_}
+use Prim.Native.Nat.{ℕ, zero, suc, _+_, _<_, _≤_}
 use mathlib.Core.Path.{_≡_, refl, sym, ap, _∙_}
 use mathlib.Core.Bool.{Bool, true, false, _&&_}
 use mathlib.Core.List.{List, [], _∷_, _++_, map, map-append, append-nil}
 use native.Mathlib.Omega.{arith}
-use native.Mathlib.Numerals.{add-one}
 use native.Mathlib.Nat.{le-antisymm}
-use lib.ListN.{length, take, drop, getD, set, replicate, take-append-drop, length-set, length-append, length-map, length-replicate}
-use lib.Seq.{take-all, take-append-le, length-take-le, take-suc, set-append-left, getD-take}
-use lib.Dec.{eqb, ltb, leb}
-use borrow.Author.Tests.{lt-ltb, le-ltb, ltb-true, ltb-false, ne-eqb, eq-eqb}
+use lib.ListN.{length, take, drop, getD, set, replicate, take-append-drop, length-set, length-append, length-replicate}
+use lib.Seq.{take-all, take-append-le, length-take-le, set-append-left, getD-take}
+use lib.Dec.{ltb}
+use borrow.Author.Tests.{le-ltb, ltb-true, ltb-false, ne-eqb, eq-eqb}
 use Rattle.session.specs.Lists.{pick, keep, packed, usedOf, changeIf, changeFirst}
 use Rattle.session.specs.Records.{waits, collected, isSet}
 use Rattle.session.specs.Rules.{collect, collectFirst}
 use Rattle.session.specs.State.{view, withPlayers, relist}
 use Rattle.session.specs.Offs.{offOf, offTimes, noOff, offsOf, addOff, firstOf, firstAt, collectedOffs, tookFirst}
-use Rattle.session.specs.declared.Collected.{Collected}
-use Rattle.session.specs.declared.FirstOff.{FirstOff}
 use Rattle.session.specs.declared.FirstOff.the-variants.{Nothing, Taken}
 use Rattle.session.specs.declared.Off.{Off}
-use Rattle.session.specs.declared.OffAt.{OffAt}
-use Rattle.session.specs.declared.OffAt.the-variants.{Never, At}
 use Rattle.session.specs.declared.Offs.{Offs}
 use Rattle.session.specs.declared.PlayerRecord.{PlayerRecord}
 use Rattle.session.specs.declared.Session.{Session}
-use Rattle.session.specs.declared.Took.{Took}
 use Rattle.session.proofs.Packing.{packed-set}
 use Rattle.session.proofs.Relist.{view-length}
 use Rattle.session.proofs.Search.{rest-step, rest-none}

@@ -12,7 +12,6 @@ use borrow.Author.Tests.{ltb-true, leb-true}
 use Rattle.session.specs.Lists.{pick, keep, packed, usedOf}
 use Rattle.session.specs.State.{liveIds, relive, hasPlace, placed, freed, opened, endedVoice, withVoices, withHeld, heldDown, seqStepped, seqHit, noRecord, freshSession}
 use Rattle.session.specs.declared.LiveVoices.{LiveVoices}
-use Rattle.session.specs.declared.Opened.{Opened}
 use Rattle.session.specs.declared.PlayerRecord.{PlayerRecord}
 use Rattle.session.specs.declared.Sequences.{Sequences}
 use Rattle.session.specs.declared.Session.{Session}
@@ -146,7 +145,7 @@ pub next-placed : (v : LiveVoices) → placed v .«next_voice» ≡ v .«next_vo
 unfolding placed
 next-placed v = refl
 
-keep-fewer : {A : Type 0} (p : A → Bool) (xs : List A) → length (keep p xs) ≤ length xs
+pub keep-fewer : {A : Type 0} (p : A → Bool) (xs : List A) → length (keep p xs) ≤ length xs
 keep-fewer p [] = omega arith
 keep-fewer p (x ∷ xs) = by-case (p x) (keep-fewer p xs) where
   by-case : (t : Bool) → length (keep p xs) ≤ length xs → length (pick t (x ∷ keep p xs) (keep p xs)) ≤ suc (length xs)

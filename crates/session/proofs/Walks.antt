@@ -1,17 +1,17 @@
 -- Walks over the records in use. Assumes nothing.
 use Prim.Native.Nat.{ℕ, zero, suc, _+_, _-_, _<_, _≤_}
 use mathlib.Core.Path.{_≡_, refl, sym, ap, _∙_}
-use mathlib.Core.Bool.{Bool, true, false, not}
-use mathlib.Core.List.{List, [], _∷_, _++_, map, foldl, foldl-append, append-nil}
+use mathlib.Core.Bool.{Bool, true, false}
+use mathlib.Core.List.{List, [], _∷_, _++_, map, foldl, foldl-append}
 use native.Mathlib.Omega.{arith}
 use native.Mathlib.Numerals.{add-one}
 use native.Mathlib.Nat.{le-of-lt, le-refl, le-antisymm}
 use lib.ListN.{length, take, drop, getD, set, length-map, length-append}
 use lib.Seq.{set-getD, take-suc, length-take-le}
-use lib.Dec.{eqb, ltb}
+use lib.Dec.{ltb}
 use borrow.Author.Tests.{ltb-true, ltb-false, ne-eqb}
 use Rattle.session.specs.Rules.{surplusOf}
-use Rattle.session.specs.Lists.{pick, keep, usedOf, packed, changeIf, changeWhere}
+use Rattle.session.specs.Lists.{pick, keep, usedOf, changeIf}
 use Rattle.session.specs.State.{view, withPlayers, relist}
 use Rattle.session.specs.declared.PlayerRecord.{PlayerRecord}
 use Rattle.session.specs.declared.Session.{Session}

@@ -1,16 +1,16 @@
 -- One record after the other yields. Assumes nothing.
-use Prim.Native.Nat.{ℕ, zero, suc, _+_, _-_, _<_, _≤_}
+use Prim.Native.Nat.{ℕ, zero, suc, _-_, _<_, _≤_}
 use mathlib.Core.Path.{_≡_, refl, sym, ap, _∙_}
 use mathlib.Core.Bool.{Bool, true, false}
-use mathlib.Core.List.{List, [], _∷_, _++_, map}
+use mathlib.Core.List.{List}
 use native.Mathlib.Omega.{arith}
 use lib.ListN.{length, length-map}
 use lib.Dec.{leb}
 use borrow.Author.Tests.{le-leb, lt-leb}
-use Rattle.session.specs.Lists.{pick, changeIf, changeWhere}
+use Rattle.session.specs.Lists.{pick, changeIf}
 use Rattle.session.specs.Records.{mayYield, quieter, ofRegion, older, isSister, marked, chokedBy, sharesNote}
 use Rattle.session.specs.Rules.{markSisters, lowest, orStop, yieldUp, choke, limitNote, limitRegion, notePolyphony, polyphony, endOldest, startMarks, countOf, surplusOf}
-use Rattle.session.specs.State.{view, withPlayers, relist}
+use Rattle.session.specs.State.{view, relist}
 use Rattle.session.specs.declared.Limit.{Limit}
 use Rattle.session.specs.declared.Limit.the-variants.{Unlimited, Most}
 use Rattle.session.specs.declared.PlayerRecord.{PlayerRecord}

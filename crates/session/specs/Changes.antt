@@ -1,7 +1,7 @@
 -- The ways in which a whole list of records may change: what the laws over the session's list speak of.
 use Prim.Native.Nat.{ℕ}
 use mathlib.Core.Path.{_≡_}
-use mathlib.Core.Bool.{Bool, true, false}
+use mathlib.Core.Bool.{false}
 use mathlib.Core.List.{List, [], _∷_}
 use Rattle.session.specs.declared.OffAt.the-variants.{Never}
 use Rattle.session.specs.declared.PlayerRecord.{PlayerRecord}

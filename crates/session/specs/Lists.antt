@@ -1,8 +1,8 @@
 -- Words on lists that the definitions of the session share.
 use Prim.Native.Nat.{ℕ}
-use mathlib.Core.Bool.{Bool, true, false, _||_}
-use mathlib.Core.List.{List, [], _∷_, _++_, map, foldl}
-use lib.ListN.{length, take, drop}
+use mathlib.Core.Bool.{Bool, true, false}
+use mathlib.Core.List.{List, [], _∷_, _++_, map}
+use lib.ListN.{length, drop}
 use lib.Dec.{ltb, eqb}
 
 abbrev pub pick : {A : Type 0} → Bool → A → A → A

@@ -1,6 +1,5 @@
 -- Which records a removal leaves.
-use mathlib.Core.Bool.{Bool, true, false, not}
-use mathlib.Core.List.{List}
+use mathlib.Core.Bool.{Bool, not}
 use Rattle.session.specs.declared.PlayerRecord.{PlayerRecord}
 use Rattle.session.specs.declared.Removal.{Removal}
 use Rattle.session.specs.Lists.{pick}

@@ -1,10 +1,9 @@
 -- The rules of the session's list, on the records in use in their order.
 use Prim.Native.Nat.{ℕ, zero, suc, _-_}
-use mathlib.Core.Bool.{Bool, true, false, not}
+use mathlib.Core.Bool.{Bool, not}
 use mathlib.Core.List.{List, [], _∷_, _++_, map, foldl}
 use lib.ListN.{length}
 use lib.Dec.{ltb, leb, eqb}
-use Rattle.session.specs.declared.OffAt.the-variants.{Never, At}
 use Rattle.session.specs.declared.Limit.{Limit}
 use Rattle.session.specs.declared.Limit.the-variants.{Unlimited, Most}
 use Rattle.session.specs.declared.PlayerRecord.{PlayerRecord}
@@ -13,7 +12,7 @@ use Rattle.session.specs.declared.Sharing.the-variants.{Note, Region}
 use Rattle.session.specs.declared.Start.{Start}
 use Rattle.session.specs.declared.Victim.{Victim}
 use Rattle.session.specs.declared.Victim.the-variants.{Nobody, Sounding}
-use Rattle.session.specs.Lists.{pick, keep, any, elem, changeWhere, changeFirst}
+use Rattle.session.specs.Lists.{pick, keep, changeWhere, changeFirst}
 use Rattle.session.specs.Records.{marked, ended, collected, chokedBy, sharesNote, mayYield, ofRegion, isSister, quieter, older, ofVoice, inSlots, waits}
 
 -- ---- what a starting region marks

@@ -1,8 +1,8 @@
 -- The session as a whole: its list of records in use, and the session with another list.
 use Prim.Native.Nat.{ℕ, _+_, _-_, _%_, _^_}
-use mathlib.Core.Bool.{Bool, true, false, not, _&&_}
+use mathlib.Core.Bool.{Bool, false, not, _&&_}
 use mathlib.Core.List.{List, [], _∷_, _++_}
-use lib.ListN.{length, take, drop, getD, set, replicate}
+use lib.ListN.{length, take, getD, set, replicate}
 use lib.Dec.{ltb, leb, eqb}
 use lib.IntN.{pos}
 use Rattle.session.specs.declared.OffBy.the-variants.{Nobody}

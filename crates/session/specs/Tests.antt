@@ -2,17 +2,13 @@
 use Prim.Native.Nat.{ℕ}
 use mathlib.Core.Bool.{Bool, true, false, not}
 use mathlib.Core.List.{List, [], _∷_}
-use lib.ListN.{length, take}
 use lib.Dec.{ltb, leb, eqb}
-use Rattle.session.specs.declared.LiveVoices.{LiveVoices}
-use Rattle.session.specs.declared.PlayerRecord.{PlayerRecord}
 use Rattle.session.specs.declared.Session.{Session}
-use Rattle.session.specs.declared.Slots.{Slots}
 use Rattle.session.specs.declared.Window.{Window}
 use Rattle.session.specs.Lists.{pick, any, elem, twice}
 use Rattle.session.specs.Records.{ofVoice, inWindow}
 use Rattle.session.specs.Rules.{countOf, slotsOf}
-use Rattle.session.specs.State.{view, liveIds, slotList}
+use Rattle.session.specs.State.{view, liveIds}
 
 -- the voice is live in the session
 unfoldable pub isLive : ℕ → Session → Bool

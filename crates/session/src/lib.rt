@@ -1,15 +1,14 @@
 // The session: the state that a program's voices share, by value. Its list of records, one for each sounding region of some voice,
 // is what chokes and polyphony limits act on. Voices stand above it and rely on these promises alone.
 ghost use mathlib.Core.Path.{_≡_};
-ghost use Prim.Native.Nat.{_+_, _≤_, _<_};
+ghost use Prim.Native.Nat.{_≤_};
 ghost use mathlib.Core.Bool.{true, false, not};
 ghost use mathlib.Core.List.{[]};
 ghost use lib.ListN.{getD, drop, length};
-ghost use lib.Dec.{eqb, ltb, leb};
-ghost use Rattle.session.specs.Lists.{usedOf, keep, any, elem, twice};
+ghost use Rattle.session.specs.Lists.{usedOf, keep, elem, twice};
 ghost use Rattle.session.specs.Records.{marked, ended, collected, entered, sameZ, offByIs, sharesBoth, chokedBy, sharesNote, mayYield, ofRegion, isSister, quieter, older, ofVoice, inSlots, waits, inWindow};
-ghost use Rattle.session.specs.Rules.{choke, markSisters, lowerOf, lookAt, lowest, countOf, atLeastOne, surplusOf, notePolyphony, polyphony, startMarks, enter, withoutVoice, withoutSlots, sharing, yielding, goingFirst, yieldUp, endOldest, markEnded};
-ghost use Rattle.session.specs.Offs.{offOf, noOff, addOff, offsOf, collectedOffs, tookFirst, firstAt};
+ghost use Rattle.session.specs.Rules.{choke, markSisters, lowerOf, lookAt, lowest, countOf, surplusOf, notePolyphony, polyphony, startMarks, enter, withoutVoice, withoutSlots, sharing, yielding, goingFirst, yieldUp, endOldest, markEnded};
+ghost use Rattle.session.specs.Offs.{offOf, addOff, offsOf, collectedOffs, tookFirst, firstAt};
 ghost use Rattle.session.specs.Removal.{stays};
 ghost use Rattle.session.specs.Tests.{isLive, overLive, twiceLive, strayRecord, overRecords, overVoice, overHeld, regionOutside, slotsInOrder, attackPlaying};
 ghost use Rattle.session.specs.State.{view, relist, slotList, liveIds, withVoices, opened, freed, withSeq, seqStepped, seqHit, serialUp, heldUp, heldDown, endedVoice, closedVoice, noRecord, freshSession, hasPlace, placed};
@@ -1164,6 +1163,10 @@ fn count_voice(s: Session, voice: u64) -> usize
 pub fn over_voice(s: Session) -> bool
     ensures { λ b. ⌜ b ≡ overVoice s ⌝ }
 {
+    // a list of 32 cannot have more of one voice
+    if s.count <= 32 {
+        return false;
+    }
     let v = s.voices;
     let n = used_places(v.count);
     let mut i: usize = 0;

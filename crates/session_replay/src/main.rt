@@ -183,8 +183,8 @@ fn triggered(s: Session, l: Line) -> bool {
     let trigger = f[12];
     match trigger {
         1 => session::attack_playing(s, window_of(l)),
-        2 => s.held == 1,
-        3 => 1 < s.held,
+        3 => s.held == 1,
+        4 => 1 < s.held,
         _ => true,
     }
 }
@@ -209,7 +209,7 @@ fn start(s: Session, l: Line) -> Session {
 fn take_offs(s: Session, voice: u64) -> Session {
     let mut t = s;
     let mut k: usize = 0;
-    while k < 512 {
+    while k < 40 {
         let took = session::take_first_off(t, voice);
         t = took.session;
         k += 1;

@@ -11,14 +11,6 @@ use mathlib.Core.Path.{_∙_, _≡_, ap, refl}
 use native.Mathlib.Omega.{arith}
 use Rattle.session.proofs.collect_offs.Statement.{statement}
 use Rattle.session.proofs.collect_offs.Tie as tie
-use Rattle.session.proofs.collect_offs.Reads as reads
-use Rattle.session.proofs.collect_offs.Lts as lts
-use Rattle.session.proofs.add_off.Reads as add-off-reads
-use Rattle.session.proofs.clear_off.Reads as clear-off-reads
-use Rattle.session.proofs.is_waiting.Reads as is-waiting-reads
-use Rattle.session.proofs.no_offs.Reads as no-offs-reads
-use Rattle.session.proofs.off_of.Reads as off-of-reads
-use Rattle.session.proofs.used.Reads as used-reads
 
 abbrev Inv-loop : tie.InvT-loop
 Inv-loop voice n t₀ offs₀ i₀ t offs i = (i ≤ n) × (n ≤ 512) × (length (t₀ .players) ≡ 512) × (t ≡ doneTo (changeIf (waits voice) collected) i t₀) × (offs ≡ offsOf (offTimes voice (take i (t₀ .players))))

@@ -1,4 +1,5 @@
 use Prim.Native.Nat.{_-_, _≤_}
+use Rattle.session.proofs.Laws.{over-few}
 use Rattle.session.proofs.Search.{Searched, search-found, search-next, search-over}
 use Rattle.session.proofs.Walks.{long, used-below}
 use Rattle.session.specs.Lists.{any}
@@ -14,10 +15,6 @@ use mathlib.Core.Path.{_∙_, ap, refl, sym}
 use native.Mathlib.Omega.{arith}
 use Rattle.session.proofs.over_voice.Statement.{statement}
 use Rattle.session.proofs.over_voice.Tie as tie
-use Rattle.session.proofs.over_voice.Reads as reads
-use Rattle.session.proofs.over_voice.Lts as lts
-use Rattle.session.proofs.count_voice.Reads as count-voice-reads
-use Rattle.session.proofs.used_places.Reads as used-places-reads
 
 abbrev Inv-loop : tie.InvT-loop
 Inv-loop s v n i₀ i = (n ≤ 16) × Searched (λ id. ltb 32 (countOf (ofVoice id) (view s))) (any (λ id. ltb 32 (countOf (ofVoice id) (view s))) (take n (v .ids))) n (v .ids) i
@@ -25,11 +22,14 @@ Inv-loop s v n i₀ i = (n ≤ 16) × Searched (λ id. ltb 32 (countOf (ofVoice 
 abbrev μ-loop : tie.MeasureT-loop
 μ-loop s v n i₀ i = n - i
 
+returns : tie.Need-returns Inv-loop μ-loop
+returns c = over-few (c .before .before .args .s) (c .if1 .taken)
+
 used-places-requires : tie.Need-used-places-requires Inv-loop μ-loop
 used-places-requires c κs = search needs
 
 loop-holds : tie.Need-loop-holds Inv-loop μ-loop
-loop-holds c = let h : c .used-places .result ≤ 16 = rw (c .used-places .ensures) (used-below 16 (c .before .before .args .s .voices .count)) in let l = (long _ (c .before .before .args .s .voices .ids) 16 (c .before .before .good .0 .1 .1 .1 .1 .1 .0 .1 .1 .0 .1 .0 .1)) in (h, record { fits = omega arith; left = refl })
+loop-holds c = let h : c .used-places .result ≤ 16 = rw (c .used-places .ensures) (used-below 16 (c .before .before .before .before .args .s .voices .count)) in let l = (long _ (c .before .before .before .before .args .s .voices .ids) 16 (c .before .before .before .before .good .0 .1 .1 .1 .1 .1 .0 .1 .1 .0 .1 .0 .1)) in (h, record { fits = omega arith; left = refl })
 
 mul-id : tie.Need-mul-id Inv-loop μ-loop
 mul-id c = record { fits = omega arith }
@@ -40,9 +40,9 @@ element-copy-out-id c = omega arith
 count-voice-requires : tie.Need-count-voice-requires Inv-loop μ-loop
 count-voice-requires c κs = search needs
 
-returns : tie.Need-returns Inv-loop μ-loop
+returns-2 : tie.Need-returns-2 Inv-loop μ-loop
 unfolding overVoice
-returns c = let b = c .before .before .before .before in let a = b .before .before .before .args in search-found (λ id. ltb 32 (countOf (ofVoice id) (view (a .s)))) _ _ _ _ (b .loop .inv .1) _ (c .before .before .before .loop-test .taken) (ap (ltb 32) (sym (c .before .count-voice .ensures)) ∙ lt-ltb _ _ (c .if1 .taken)) ∙ ap (λ m. any (λ id. ltb 32 (countOf (ofVoice id) (view (a .s)))) (take m (a .s .voices .ids))) (b .before .used-places .ensures)
+returns-2 c = let b = c .before .before .before .before in let a = b .before .before .before .before .before .args in search-found (λ id. ltb 32 (countOf (ofVoice id) (view (a .s)))) _ _ _ _ (b .loop .inv .1) _ (c .before .before .before .loop-test .taken) (ap (ltb 32) (sym (c .before .count-voice .ensures)) ∙ lt-ltb _ _ (c .if2 .taken)) ∙ ap (λ m. any (λ id. ltb 32 (countOf (ofVoice id) (view (a .s)))) (take m (a .s .voices .ids))) (b .before .used-places .ensures)
 
 add-i : tie.Need-add-i Inv-loop μ-loop
 add-i c = record { fits = omega arith }
@@ -51,11 +51,11 @@ loop-less : tie.Need-loop-less Inv-loop μ-loop
 loop-less c = omega arith
 
 loop-again : tie.Need-loop-again Inv-loop μ-loop
-loop-again c = let b = c .before .before .before .before in let a = b .before .before .before .args in (b .loop .inv .0, search-next (λ id. ltb 32 (countOf (ofVoice id) (view (a .s)))) _ _ _ _ (b .loop .inv .1) _ (c .before .before .before .loop-test .taken) (ap (ltb 32) (sym (c .before .count-voice .ensures)) ∙ le-ltb _ _ (c .if1 .left)))
+loop-again c = let b = c .before .before .before .before in let a = b .before .before .before .before .before .args in (b .loop .inv .0, search-next (λ id. ltb 32 (countOf (ofVoice id) (view (a .s)))) _ _ _ _ (b .loop .inv .1) _ (c .before .before .before .loop-test .taken) (ap (ltb 32) (sym (c .before .count-voice .ensures)) ∙ le-ltb _ _ (c .if2 .left)))
 
-returns-2 : tie.Need-returns-2 Inv-loop μ-loop
+returns-3 : tie.Need-returns-3 Inv-loop μ-loop
 unfolding overVoice
-returns-2 c = let b = c .before in let a = b .before .before .before .args in search-over (λ id. ltb 32 (countOf (ofVoice id) (view (a .s)))) _ _ _ _ (b .loop .inv .1) (c .loop-test .left) ∙ ap (λ m. any (λ id. ltb 32 (countOf (ofVoice id) (view (a .s)))) (take m (a .s .voices .ids))) (b .before .used-places .ensures)
+returns-3 c = let b = c .before in let a = b .before .before .before .before .before .args in search-over (λ id. ltb 32 (countOf (ofVoice id) (view (a .s)))) _ _ _ _ (b .loop .inv .1) (c .loop-test .left) ∙ ap (λ m. any (λ id. ltb 32 (countOf (ofVoice id) (view (a .s)))) (take m (a .s .voices .ids))) (b .before .used-places .ensures)
 
 pub over-voice-spec : {M : Type 1} → statement M
 over-voice-spec =
@@ -63,13 +63,14 @@ over-voice-spec =
     (tie.spec
     Inv-loop
     μ-loop
+    returns
     used-places-requires
     loop-holds
     mul-id
     element-copy-out-id
     count-voice-requires
-    returns
+    returns-2
     add-i
     loop-less
     loop-again
-    returns-2)
+    returns-3)

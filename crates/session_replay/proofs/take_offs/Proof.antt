@@ -5,10 +5,10 @@ use Rattle.session_replay.proofs.take_offs.Statement.{statement}
 use Rattle.session_replay.proofs.take_offs.Tie as tie
 
 abbrev Inv-loop : tie.InvT-loop
-Inv-loop voice t₀ k₀ t k = k ≤ 512
+Inv-loop voice t₀ k₀ t k = k ≤ 40
 
 abbrev μ-loop : tie.MeasureT-loop
-μ-loop voice t₀ k₀ t k = 512 - k
+μ-loop voice t₀ k₀ t k = 40 - k
 
 loop-holds : tie.Need-loop-holds Inv-loop μ-loop
 loop-holds c = omega arith

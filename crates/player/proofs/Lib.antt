@@ -1,0 +1,4 @@
+pub mod Pitches
+pub mod Positions
+pub mod Reading
+pub mod Runs

@@ -1,0 +1,4 @@
+pub mod Bounds
+pub mod Source
+pub mod Pitch
+pub mod Segment
