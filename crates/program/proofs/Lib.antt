@@ -5,3 +5,4 @@ pub mod Samples
 pub mod Binding
 pub mod Lookups
 pub mod Curves
+pub mod Bound

@@ -55,8 +55,8 @@ keysTests x =
     ∷ leb (x .pitch .«pitch_keycenter») 127 ∷ windowTests x
 
 -- silence, or one of n samples
-abbrev pub sampleIn : ℕ → ℕ → Bool
-sampleIn n s = eqb s 0xffff_ffff || ltb s n
+abbrev pub sampleKnown : ℕ → ℕ → Bool
+sampleKnown n s = eqb s 0xffff_ffff || ltb s n
 
 abbrev pub loopInOrder : LoopPoints → Bool
 loopInOrder Unlooped = true
@@ -127,7 +127,7 @@ numberTests x =
 -- what `validate_region` and 01 ask of a region x with the words r where there are n samples
 abbrev pub regionTests : ℕ → List ℕ → Region → List Bool
 regionTests n r x =
-    every (keysTests x) ∷ sampleIn n (x .sample) ∷ loopInOrder (x .play .«loop_points») ∷ seqInTurn (x .chosen .seq)
+    every (keysTests x) ∷ sampleKnown n (x .sample) ∷ loopInOrder (x .play .«loop_points») ∷ seqInTurn (x .chosen .seq)
     ∷ every (pointTests r) ∷ every (numberTests x) ∷ []
 
 unfoldable pub validRegion : ℕ → List ℕ → Bool

@@ -8,7 +8,7 @@ ghost use mathlib.Core.List.{[], _∷_};
 ghost use lib.IntN.{pos, negsuc};
 ghost use lib.Signed.{leZ};
 ghost use Rattle.program.specs.Region.{byteOf, floatOf, signedOf, word, loopPointsOf, seqOf, randOf, crossfadeOf, regionOf};
-ghost use Rattle.program.specs.Valid.{every, allFinite, run, windowTests, keysTests, sampleIn, loopInOrder, seqInTurn, randNumbers, crossfadeNumbers, filtersFinite, bandsFinite, notAbove, within, timesTests, pitchTests, pointTests, numberTests, validRegion, countsTests, CountsIn};
+ghost use Rattle.program.specs.Valid.{every, allFinite, run, windowTests, keysTests, sampleKnown, loopInOrder, seqInTurn, randNumbers, crossfadeNumbers, filtersFinite, bandsFinite, notAbove, within, timesTests, pitchTests, pointTests, numberTests, validRegion, countsTests, CountsIn};
 use super::region::byte_of;
 use super::region::float_of;
 use super::region::signed_of;
@@ -75,7 +75,7 @@ fn keys_ok(r: &[u32]) -> bool
 
 // Silence, or one of n samples.
 fn sample_ok(s: u32, n: u32) -> bool
-    ensures { λ b. ⌜ b ≡ sampleIn n s ⌝ }
+    ensures { λ b. ⌜ b ≡ sampleKnown n s ⌝ }
 {
     if s == 0xffff_ffff {
         return true;
