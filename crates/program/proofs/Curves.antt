@@ -2,17 +2,19 @@
 use Prim.Native.Nat.{ℕ, zero, suc, _+_, _-_, _<_, _≤_, min}
 use mathlib.Core.Path.{_≡_, refl, sym, ap, _∙_}
 use mathlib.Core.Bool.{Bool, true, false, cond, _&&_}
-use mathlib.Core.List.{List, [], _∷_}
+use mathlib.Core.List.{List, [], _∷_, map}
 use mathlib.Core.Logic.{_⊎_, inl, inr}
-use native.Mathlib.Nat.{sub-zero, eq-or-lt-of-le}
+use native.Mathlib.Nat.{add-zero, zero-add}
 use native.Mathlib.Omega.{arith}
 use lib.Dec.{leb, ltb, eqb}
-use lib.Ieee.{Float}
+use lib.ListN.{getD}
+use lib.Ieee.{Float, nan}
+use Rattle.program.specs.Bind.{indexes}
 use borrow.Author.Tests.{lt-leb, le-leb, eq-eqb, ne-eqb, leb-true, leb-false, eqb-true, eqb-false}
 use Rattle.program.specs.declared.curve.Side.{Side}
 use Rattle.program.specs.declared.curve.Near.{Near}
 use Rattle.program.specs.Region.{word, floatOf}
-use Rattle.program.specs.Curve.{Point, pointOf, pointsFrom, pointsOf, Gain, unset, given, isGiven, numberOf, preset, put, tableOf, lower, upper, linear, gainAt, sideStep, nearStep, nearOf, nearFirst}
+use Rattle.program.specs.Curve.{Point, pointOf, pointsFrom, pointsOf, Gain, unset, given, isGiven, numberOf, preset, put, tableOf, lower, upper, linear, gainAt, velcurveTable, sideStep, nearStep, nearOf, nearFirst}
 
 module _ (p : Point) (tab : ℕ → Gain) where
   -- the point's own velocity, and any other
@@ -209,3 +211,13 @@ module _ (r : List ℕ) (v : ℕ) (s : Near) (k n : ℕ) where
 pub point-is : (r : List ℕ) (k v : ℕ) (s : Near) (a : ℕ) (g : Float) → a ≡ min (word r (136 + k)) 127 → g ≡ floatOf (word r (264 + k))
     → nearStep v s (record { velocity = a; gain = g }) ≡ nearStep v s (pointOf r k)
 point-is r k v s a g ea eg = ap (λ x. nearStep v s (record { velocity = x; gain = g })) ea ∙ ap (λ x. nearStep v s (record { velocity = min (word r (136 + k)) 127; gain = x })) eg
+
+index-entry : {A : Type 0} (f : ℕ → A) (i k j : ℕ) (d : A) → j < k → getD (map f (indexes i k)) j d ≡ f (i + j)
+index-entry f i zero j d h = absurd (omega arith)
+index-entry f i (suc k) zero d h = ap f (sym (add-zero i))
+index-entry f i (suc k) (suc j) d h = index-entry f (i + 1) k j d (omega arith) ∙ ap f (let e : i + 1 + j ≡ i + suc j = omega arith in e)
+
+-- an entry of the Rust's table is the gain at its velocity, which `velcurve` gives
+pub table-entry : (ps : List Point) (v : ℕ) → v < 128 → getD (velcurveTable ps) v nan ≡ gainAt (tableOf preset ps) v
+unfolding velcurveTable
+table-entry ps v h = index-entry (gainAt (tableOf preset ps)) 0 128 v nan h ∙ ap (gainAt (tableOf preset ps)) (zero-add v)
