@@ -2,3 +2,4 @@ pub mod Pitches
 pub mod Positions
 pub mod Reading
 pub mod Runs
+pub mod Starts

@@ -1,14 +1,13 @@
 -- A held step is within 0 to 4,096, and a player stays sound under another pitch. Assumes nothing.
-use mathlib.Core.Path.{_≡_, refl, sym, ap, subst, _∙_}
+use mathlib.Core.Path.{_≡_, refl}
 use mathlib.Core.Bool.{Bool, true, false, not, cond}
-use Prim.Native.Nat.{ℕ, _+_, _*_, _^_, _≤_, _<_}
+use Prim.Native.Nat.{_+_, _*_, _^_, _≤_, _<_}
 use native.Mathlib.Omega.{arith}
 use lib.Dec.{T, ltb, lt→ltb, nltb→le}
-use lib.IntN.{ℤ, pos}
-use lib.Ieee.Exact.{HasValue}
+use lib.IntN.{pos}
 use lib.Ieee.Fits.{down-pos}
 use lib.Ieee.Order.{le-of-values}
-use lib.Ieee.{Float, nan, inf, fin, binary64, up, down, le, lt, eq, ne, ofBits}
+use lib.Ieee.{Float, nan, inf, fin, up, down, le, lt, eq, ne, ofBits}
 use Rattle.interp.specs.Position.{first}
 use Rattle.interp.specs.Span.{spanFor}
 use Rattle.interp.proofs.Marked.{half-small}
@@ -31,7 +30,7 @@ kept (fin false m e) a b =
     let h : m * up e * 1 ≤ 1 * 2 ^ 12 * down e = nltb→le (1 * 2 ^ 12 * down e) (m * up e * 1) b in
     le-of-values (fin false m e) (fin false 1 (pos 12)) (m * up e) (down e) 4096 1 (down-pos e) (omega arith) (refl, refl) (refl, refl) (omega arith)
 
-at-first : Step first
+pub at-first : Step first
 unfolding ofBits le lt eq
 at-first = record { low = tt; high = tt }
 

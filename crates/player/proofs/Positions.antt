@@ -1,9 +1,8 @@
 -- A position stays within 0 to 2 ^ 33: where a frame is read it is at most 2 ^ 32, and a step is at most 4,096. Assumes nothing.
 use mathlib.Core.Path.{_≡_, refl, sym, ap, subst, _∙_}
 use mathlib.Core.Bool.{Bool, true, false, not, true≢false, _&&_, _||_, cond}
-use mathlib.Core.Logic.{⊎-elim}
 use Prim.Native.Nat.{ℕ, suc, _+_, _-_, _*_, _/_, _^_, _≤_, _<_, min}
-use native.Mathlib.Nat.{lt-irrefl, mul-le-mul-right, mul-pos, zero-mul, div-mul-le-self, div-lt-iff-lt-mul, lt-of-lt-of-le}
+use native.Mathlib.Nat.{lt-irrefl, mul-le-mul-right, mul-pos, zero-mul, div-mul-le-self, div-lt-iff-lt-mul}
 use native.Mathlib.Numerals.{add-one}
 use native.Mathlib.Omega.{arith}
 use borrow.Author.Tests.{le-ltb}
@@ -14,12 +13,12 @@ use lib.Ieee.Exact.{HasValue}
 use lib.Ieee.Fits.{down-pos, and-l}
 use lib.Ieee.Order.{le-of-values, round-mono}
 use lib.Ieee.Scale.{round-same}
-use lib.Ieee.{Float, nan, inf, fin, binary64, up, down, round, sum, add, sub, neg, le, lt, eq, ofInt, ofBits, toUnsigned, fits}
+use lib.Ieee.{Float, nan, inf, fin, binary64, up, down, round, sum, add, sub, neg, le, lt, eq, ofBits, toUnsigned, fits}
 use Rattle.exact.proofs.Negation.{neg-round}
 use Rattle.envelope.specs.declared.EgState.{EgState}
 use Rattle.envelope.specs.Envelope.{isReleased}
 use Rattle.interp.specs.Position.{Position, first, furthest, double, looped, lessWhile}
-use Rattle.interp.proofs.Range.{at-most, position-within, position-most}
+use Rattle.interp.proofs.Range.{at-most, position-within}
 use Rattle.interp.proofs.Difference.{differ}
 use Rattle.interp.proofs.Looping.{double-value, wraps, stays}
 use Rattle.program.specs.declared.region.LoopMode.{LoopMode}
@@ -27,13 +26,12 @@ use Rattle.program.specs.declared.region.LoopMode.the-variants.{NoLoop, OneShot
 use Rattle.player.specs.Bounds.{Step, most, LoopOk, Wrapped, bound}
 use Rattle.player.specs.Source.{atEnd, currentLoop}
 use Rattle.player.specs.Segment.{endsNow, fastOff, frameWith, frameAfter}
-use Rattle.player.specs.declared.LoopRt.{LoopRt}
 use Rattle.player.specs.declared.source.Source.{Source}
 use Rattle.player.specs.declared.MaybeLoop.{MaybeLoop}
 use Rattle.player.specs.declared.MaybeLoop.the-variants.{Absent, Present}
 
 -- ---- a sum
-round-within : (n C : ℕ) → 0 < C → n ≤ 8589934592 * C → Position (round binary64 false n C)
+pub round-within : (n C : ℕ) → 0 < C → n ≤ 8589934592 * C → Position (round binary64 false n C)
 unfolding ofBits le lt eq round
 round-within n C d h =
     record { low = round-mono binary64 0 1 n C (omega arith) d (omega arith); high = round-mono binary64 n C 8589934592 1 d (omega arith) (omega arith) }

@@ -1,6 +1,6 @@
 -- One frame of the sample, put together from its pieces. Assumes nothing.
 use mathlib.Core.Path.{_≡_}
-use mathlib.Core.Bool.{Bool, true, false}
+use mathlib.Core.Bool.{Bool, false}
 use lib.Ieee.{Float}
 use Rattle.interp.specs.declared.sinc.Pair.{Pair}
 use Rattle.player.specs.declared.MaybeLoop.{MaybeLoop}

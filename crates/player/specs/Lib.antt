@@ -2,3 +2,4 @@ pub mod Bounds
 pub mod Source
 pub mod Pitch
 pub mod Segment
+pub mod Start

@@ -3,6 +3,7 @@
 pub mod pitch;
 pub mod segment;
 pub mod source;
+pub mod start;
 
 use envelope::Env;
 use filter::FilterSlot;

@@ -1,4 +1,4 @@
-use mathlib.Core.Path.{_≡_, refl, sym, ap, subst, _∙_}
+use mathlib.Core.Path.{sym, subst}
 use mir.Facts.{toZ-ofZ}
 use mir.Val.{SFits}
 use mir.Syntax.{w64}

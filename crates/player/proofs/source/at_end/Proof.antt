@@ -1,4 +1,4 @@
-use mathlib.Core.Path.{_≡_, refl, sym, ap, subst, _∙_}
+use mathlib.Core.Path.{sym, ap}
 use Rattle.player.specs.Source.{atEnd}
 use Rattle.player.specs.declared.MaybeLoop.{MaybeLoop}
 use borrow.Author.Needs.{needs}

@@ -1,7 +1,6 @@
-use mathlib.Core.Path.{_≡_, refl, sym, ap, subst, _∙_}
+use mathlib.Core.Path.{subst}
 use Rattle.player.specs.Source.{crossfaded}
 use Rattle.player.specs.Bounds.{LoopOk}
-use Rattle.player.specs.declared.MaybeLoop.{MaybeLoop}
 use Rattle.player.proofs.Positions.{fade-start}
 use borrow.Author.Needs.{needs}
 use Rattle.player.proofs.source.crossfade.Statement.{statement}

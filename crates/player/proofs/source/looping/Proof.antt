@@ -1,6 +1,4 @@
-use mathlib.Core.Path.{_≡_, refl, sym, ap, subst, _∙_}
 use Rattle.player.specs.Source.{currentLoop}
-use Rattle.program.specs.declared.region.LoopMode.{LoopMode}
 use borrow.Author.Needs.{needs}
 use Rattle.player.proofs.source.looping.Statement.{statement}
 use Rattle.player.proofs.source.looping.Tie as tie

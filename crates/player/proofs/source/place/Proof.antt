@@ -4,7 +4,7 @@ use lib.Dec.{T}
 use Rattle.player.specs.Bounds.{LoopOk, Wrapped, bound}
 use Rattle.player.proofs.Positions.{looped-low}
 use lib.Ieee.{Float, le}
-use mathlib.Core.Path.{_≡_, refl, sym, ap, subst, _∙_}
+use mathlib.Core.Path.{sym, ap, subst, _∙_}
 use Rattle.player.specs.Source.{placeIn}
 use Rattle.player.specs.declared.MaybeLoop.{MaybeLoop}
 use borrow.Author.Needs.{needs}

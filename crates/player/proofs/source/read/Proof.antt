@@ -1,9 +1,7 @@
 use Rattle.player.proofs.Reading.{heard}
-use mathlib.Core.Path.{_≡_, refl, sym, ap, subst, _∙_}
+use mathlib.Core.Path.{sym, subst}
 use Rattle.player.specs.Source.{readFrame, heardIn}
 use Rattle.player.specs.Bounds.{LoopOk}
-use lib.Dec.{T}
-use lib.Ieee.{binary64, fits}
 use Rattle.player.proofs.Positions.{current-ok, next-position}
 use borrow.Author.Needs.{needs}
 use Rattle.player.proofs.source.read.Statement.{statement}
