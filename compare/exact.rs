@@ -1,7 +1,7 @@
 // Compares the port's exact numbers with Rust's own operators, bit for bit, and times both. Every NaN counts as one.
 //
 //     exact [MILLIONS]       patterns for each function of doubles, pairs, triples or 64-bit words (default 100);
-//                            of the functions of one 32-bit word all 2^32 are tried
+//                            of the functions of one 32-bit word all 2^32 are tried, or each STRIDE-th, a second argument
 //     exact time             nanoseconds a call, both behind a C call that is not inlined
 //
 // Ends with status 1 where any result differs.
@@ -173,10 +173,10 @@ impl Source {
     }
 }
 
-fn every_single() -> bool {
+fn every_single(stride: usize) -> bool {
     let names = ["widen", "f32_to_u8", "f32_to_u32", "f32_to_usize", "f32_to_i64", "abs_f32", "is_finite_f32", "bits_f32", "from_bits_f32", "u32_to_f32", "u32_to_f64", "i32_to_f32", "ceil_f32", "round_f32", "sqrt_f32"];
     let mut t = names.map(Tally::new);
-    for b in 0..=u32::MAX {
+    for b in (0..=u32::MAX).step_by(stride) {
         let at = || format!("{b:08x}");
         let x = f32::from_bits(b);
         t[0].hold(bits64(rt_widen(x)), bits64(x as f64), at);
@@ -335,6 +335,7 @@ fn main() {
     }
     let millions: u64 = word.parse().expect("a number of millions, or time");
     let ok = many(millions * 1_000_000);
-    let ok = every_single() && ok;
+    let stride = std::env::args().nth(2).map_or(1, |s| s.parse().expect("a stride"));
+    let ok = every_single(stride) && ok;
     std::process::exit(if ok { 0 } else { 1 });
 }

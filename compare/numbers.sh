@@ -1,5 +1,5 @@
 #!/bin/sh
-# compare/numbers.sh exact [MILLIONS | time] | powers [times | pairs] | trig [STRIDE] | log [time]
+# compare/numbers.sh exact [MILLIONS [STRIDE] | time] | powers [times | pairs] | trig [STRIDE] | log [time]
 # Proves the port's numbers, builds them as a C library, links one driver of this folder with it and runs that.
 # exact: against Rust's own operators, bit for bit. The others: the largest error of the seven float functions, and times.
 set -eu
