@@ -5,7 +5,7 @@ pub mod Table
 pub mod Taps
 pub mod Reading
 pub mod Ceiling
-pub mod Marked
+pub mod HalfTaps
 pub mod Difference
 pub mod Whole
 pub mod Looping

@@ -10,7 +10,7 @@ use lib.Ieee.Order.{le-of-values}
 use lib.Ieee.{Float, nan, inf, fin, up, down, le, lt, eq, ne, ofBits}
 use Rattle.interp.specs.Position.{first}
 use Rattle.interp.specs.Span.{spanFor}
-use Rattle.interp.proofs.Marked.{half-small}
+use Rattle.interp.proofs.HalfTaps.{half-small}
 use Rattle.player.specs.declared.Cold.{Cold}
 use Rattle.player.specs.Bounds.{Step, ColdOk, most}
 use Rattle.player.specs.Pitch.{heldStep, stepOf, withStep, pitched}

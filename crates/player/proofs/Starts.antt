@@ -1,5 +1,5 @@
--- A player that starts is sound, and 01's marked loop. Assumes nothing.
-use mathlib.Core.Path.{_≡_, refl}
+-- A player that starts is sound. Assumes nothing.
+use mathlib.Core.Path.{refl}
 use mathlib.Core.Bool.{Bool, true, false, _&&_, cond}
 use Prim.Native.Nat.{ℕ, _-_, _≤_, _<_}
 use native.Mathlib.Omega.{arith}
@@ -10,7 +10,7 @@ use Rattle.filter_design.specs.Slots.{run}
 use Rattle.filter_design.proofs.Built.{built-stages, built-count}
 use Rattle.gain.specs.declared.Curve.{Curve}
 use Rattle.interp.specs.Position.{Position, double}
-use Rattle.interp.proofs.Marked.{half-small}
+use Rattle.interp.proofs.HalfTaps.{half-small}
 use Rattle.program.specs.Valid.{loopInOrder}
 use Rattle.program.specs.declared.region.LoopMode.{LoopMode}
 use Rattle.program.specs.declared.region.LoopPoints.{LoopPoints}
@@ -27,11 +27,6 @@ use Rattle.player.specs.declared.start.Note.{Note}
 use Rattle.player.specs.declared.start.Pcm.{Pcm}
 use Rattle.player.proofs.Pitches.{at-first, pitched-ok}
 use Rattle.player.proofs.Positions.{round-within}
-
--- loop (10, 20) with last 15 has end 15, size 6
-pub marked-loop : (rate : Float) → (loopAt 10 20 15 rate .end ≡ 15) × (loopAt 10 20 15 rate .size ≡ double 6)
-unfolding loopAt
-marked-loop rate = (refl, refl)
 
 last-below : (end : MaybeU32) (frames : ℕ) → frames ≤ 4294967295 → lastOf end frames < 4294967295
 unfolding lastOf

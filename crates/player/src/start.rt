@@ -113,7 +113,7 @@ fn greater(a: u32, b: u32) -> u32
     if a < b { b } else { a }
 }
 
-fn loop_at(start: u32, end: u32, last: u32, rate: f32) -> LoopRt
+pub fn loop_at(start: u32, end: u32, last: u32, rate: f32) -> LoopRt
     requires { ⌜ (start ≤ end) × (end < 4294967295) ⌝ }
     ensures { λ r. ⌜ r ≡ loopAt start end last rate ⌝ }
 {

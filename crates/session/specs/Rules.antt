@@ -12,10 +12,14 @@ use Rattle.session.specs.declared.Sharing.the-variants.{Note, Region}
 use Rattle.session.specs.declared.Start.{Start}
 use Rattle.session.specs.declared.Victim.{Victim}
 use Rattle.session.specs.declared.Victim.the-variants.{Nobody, Sounding}
-use Rattle.session.specs.Lists.{pick, keep, changeWhere, changeFirst}
+use Rattle.session.specs.Lists.{pick, keep, changeIf, changeWhere, changeFirst}
 use Rattle.session.specs.Records.{marked, ended, collected, chokedBy, sharesNote, mayYield, ofRegion, isSister, quieter, older, ofVoice, inSlots, waits}
 
 -- ---- what a starting region marks
+
+-- one record
+unfoldable pub chokeOne : Start → PlayerRecord → PlayerRecord
+chokeOne st r = changeIf (chokedBy st) (marked (st .at)) r
 
 -- every unmarked note-on record whose off_by is its group, save those with both its group and its note
 unfoldable pub choke : Start → List PlayerRecord → List PlayerRecord

@@ -7,7 +7,7 @@ ghost use mathlib.Core.List.{[]};
 ghost use lib.ListN.{getD, drop, length};
 ghost use Rattle.session.specs.Lists.{usedOf, keep, elem, twice};
 ghost use Rattle.session.specs.Records.{marked, ended, collected, entered, sameZ, offByIs, sharesBoth, chokedBy, sharesNote, mayYield, ofRegion, isSister, quieter, older, ofVoice, inSlots, waits, inWindow};
-ghost use Rattle.session.specs.Rules.{choke, markSisters, lowerOf, lookAt, lowest, countOf, surplusOf, notePolyphony, polyphony, startMarks, enter, withoutVoice, withoutSlots, sharing, yielding, goingFirst, yieldUp, endOldest, markEnded};
+ghost use Rattle.session.specs.Rules.{choke, chokeOne, markSisters, lowerOf, lookAt, lowest, countOf, surplusOf, notePolyphony, polyphony, startMarks, enter, withoutVoice, withoutSlots, sharing, yielding, goingFirst, yieldUp, endOldest, markEnded};
 ghost use Rattle.session.specs.Offs.{offOf, addOff, offsOf, collectedOffs, tookFirst, firstAt};
 ghost use Rattle.session.specs.Removal.{stays};
 ghost use Rattle.session.specs.Tests.{isLive, overLive, twiceLive, strayRecord, overRecords, overVoice, overHeld, regionOutside, slotsInOrder, attackPlaying};
@@ -200,6 +200,16 @@ fn choked_by(r: PlayerRecord, st: Start) -> bool
         return false;
     }
     !shares_both(r, st)
+}
+
+// The record once the start is there: marked where the start chokes it.
+pub fn choke_one(r: PlayerRecord, st: Start) -> PlayerRecord
+    ensures { λ q. ⌜ q ≡ chokeOne st r ⌝ }
+{
+    if choked_by(r, st) {
+        return mark(r, st.at);
+    }
+    r
 }
 
 // Whether the record is unmarked and shares group and note with the start.
