@@ -1,7 +1,6 @@
 -- 01's table "Marked for proof": every row holds, at every rate above 0. Assumes nothing.
 use mathlib.Core.Path.{_≡_, refl, ap, _∙_}
-use mathlib.Core.Bool.{Bool, true, false}
-use mathlib.Core.List.{List, [], _∷_}
+use mathlib.Core.Bool.{true, false}
 use lib.Dec.{T}
 use lib.IntN.{pos}
 use lib.Ieee.{Float, binary32, add, mul, sub, div, neg, lt, le, eq, isNan, ofBits, ofInt}
@@ -11,12 +10,12 @@ use Rattle.envelope.specs.declared.Env.{Env}
 use Rattle.envelope.specs.declared.EnvStep.{EnvStep}
 use Rattle.exact.specs.Narrow.{narrowed}
 use Rattle.exact.specs.Order.{magnitude, maximum, smaller, chosen, negative, clamped}
-use Rattle.exact.specs.Single.{f0, f0·5, f1, f100}
+use Rattle.exact.specs.Single.{f0}
 use Rattle.gain.specs.Gain.{velocityGain}
 use Rattle.interp.specs.Points.{weight3}
 use Rattle.interp.specs.Span.{ceiling, stretchOf, spanFor}
 use Rattle.player.specs.Start.{loopAt}
-use Rattle.marked.specs.Marked.{f50, sustaining, firstStep, Every, table}
+use Rattle.marked.specs.Marked.{sustaining, firstStep, Every, table}
 use Rattle.marked.proofs.Rates.{ends}
 
 abbrev silent : Float → Env

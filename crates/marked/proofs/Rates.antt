@@ -6,11 +6,11 @@ use native.Mathlib.Nat.{zero-mul}
 use native.Mathlib.Omega.{arith}
 use lib.Dec.{T, ltb, eqb, lit<}
 use lib.IntN.{ℤ, pos}
-use lib.Ieee.{Float, nan, inf, fin, Format, binary32, prec, emax, low, up, down, odd, units, round, unlike, neg, sum, add, mul, div, lt, eq, isNan, ofBits}
+use lib.Ieee.{Float, nan, inf, fin, Format, binary32, prec, emax, low, up, down, odd, units, round, unlike, neg, add, mul, div, lt, eq, isNan, ofBits}
 use lib.Ieee.Fits.{round-is, down-pos}
 use lib.Ieee.Order.{drop, kept}
 use lib.Ieee.Scale.{round-same}
-use Rattle.envelope.specs.Envelope.{zero32, threshold, transitionTime, envAt, perTransition, isDone, doneStep, fadeoutStep, releaseStep}
+use Rattle.envelope.specs.Envelope.{zero32, threshold, transitionTime, envAt, isDone, doneStep, fadeoutStep, releaseStep}
 use Rattle.envelope.specs.declared.EgState.{EgState}
 use Rattle.envelope.specs.declared.Env.{Env}
 use Rattle.exact.specs.Order.{maximum, smaller, chosen, negative}

@@ -1,6 +1,6 @@
 -- 01's table "Marked for proof": each row is a value of the port's definitions and what 01 says that it is. Definitions only.
 use mathlib.Core.Path.{_≡_}
-use mathlib.Core.Bool.{Bool, true, false}
+use mathlib.Core.Bool.{true, false}
 use mathlib.Core.List.{List, [], _∷_}
 use lib.IntN.{pos}
 use lib.Ieee.{Float, binary32, neg, ofBits}

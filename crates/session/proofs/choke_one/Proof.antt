@@ -1,7 +1,6 @@
 use Rattle.session.specs.Lists.{pick}
 use Rattle.session.specs.Records.{marked}
 use Rattle.session.specs.Rules.{chokeOne}
-use Rattle.session.specs.declared.PlayerRecord.{PlayerRecord}
 use borrow.Author.Needs.{needs}
 use mathlib.Core.Bool.{Bool}
 use mathlib.Core.Path.{_∙_, ap, sym}
