@@ -750,7 +750,7 @@ fn seq_hit(c: u32, length: u32, position: u32) -> bool
     c % length + 1 == position
 }
 
-fn step_sequence(q: Sequences, region: usize, length: u32, position: u32) -> Sequences
+pub fn step_sequence(q: Sequences, region: usize, length: u32, position: u32) -> Sequences
     ensures { λ r. ⌜ r ≡ seqStepped region length position q ⌝ }
 {
     if 256 <= region {
@@ -774,7 +774,7 @@ pub fn seq_step(s: Session, region: u32, length: u32, position: u32) -> Session
     t
 }
 
-fn flag_of(q: Sequences, region: usize) -> bool
+pub fn flag_of(q: Sequences, region: usize) -> bool
     ensures { λ b. ⌜ b ≡ getD (q .«seq_on») region false ⌝ }
 {
     if 256 <= region {

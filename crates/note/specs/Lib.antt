@@ -1,0 +1,2 @@
+pub mod Note
+pub mod Choice
