@@ -1,0 +1,4 @@
+pub mod Starting
+pub mod Kept
+pub mod Turns
+pub mod Gates

@@ -1,0 +1,20 @@
+use borrow.Author.Needs.{needs}
+use Rattle.events.proofs.start.limit_in.Statement.{statement}
+use Rattle.events.proofs.start.limit_in.Tie as tie
+use Rattle.events.proofs.start.limit_in.Reads as reads
+use Rattle.events.proofs.start.limit_in.Lts as lts
+
+enum-told : tie.Need-enum-told
+enum-told c = search needs
+
+enum-known-m : tie.Need-enum-known-m
+enum-known-m c = search needs
+
+returns : tie.Need-returns
+returns c = search needs
+
+returns-2 : tie.Need-returns-2
+returns-2 c = rw (c .before .m .given .1)
+
+pub limit-in-spec : {M : Type 1} → statement M
+limit-in-spec = tie.close (tie.spec enum-told enum-known-m returns returns-2)

@@ -1,0 +1,4 @@
+pub mod Voice
+pub mod Start
+pub mod Off
+pub mod Gate

@@ -1,0 +1,4 @@
+pub mod Seats
+pub mod Gate
+pub mod Mix
+pub mod Sound
