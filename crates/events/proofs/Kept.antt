@@ -1,28 +1,24 @@
 -- What starting regions changes and what it leaves, for the account of a whole run. Assumes nothing.
 use Prim.Native.Nat.{ℕ, _+_, _%_, _^_, _<_, _≤_}
-use mathlib.Core.Path.{_≡_, refl, sym, ap, _∙_}
+use mathlib.Core.Path.{_≡_, refl, ap, _∙_}
 use mathlib.Core.Bool.{Bool, true, false}
 use mathlib.Core.List.{List, [], _∷_, _++_}
 use native.Mathlib.Omega.{arith}
 use lib.ListN.{length, length-append, length-set}
 use lib.Dec.{ltb, leb}
-use borrow.Author.Tests.{ltb-true, lt-leb, le-leb, leb-true, leb-false}
+use borrow.Author.Tests.{ltb-true, lt-leb, le-leb, leb-false}
 use Rattle.player.specs.Start.{startedPlayer}
-use Rattle.player.specs.declared.Player.{Player}
-use Rattle.players.specs.Seats.{sounding, seated}
+use Rattle.players.specs.Seats.{sounding}
 use Rattle.players.proofs.Seating.{sounding-seated}
 use Rattle.session.specs.Lists.{pick}
 use Rattle.session.specs.Records.{entered}
 use Rattle.session.specs.Rules.{startMarks, enter}
-use Rattle.session.specs.State.{view, relist}
-use Rattle.session.specs.declared.LiveVoices.{LiveVoices}
+use Rattle.session.specs.State.{view, serialUp}
 use Rattle.session.specs.declared.PlayerRecord.{PlayerRecord}
-use Rattle.session.specs.declared.Sequences.{Sequences}
 use Rattle.session.specs.declared.Session.{Session}
 use Rattle.session.specs.declared.Start.{Start}
 use Rattle.session.proofs.Relist.{view-few, view-relist, relist-size}
 use Rattle.session.proofs.Yield.{length-marks}
-use Rattle.note.specs.Choice.{chosenOff}
 use Rattle.note.specs.declared.MaybeNote.{MaybeNote}
 use Rattle.note.specs.declared.MaybeNote.the-variants.{Absent, Present}
 use Rattle.note.specs.declared.NoteState.{NoteState}
@@ -30,7 +26,7 @@ use Rattle.events.specs.declared.SampleVoice.{SampleVoice}
 use Rattle.events.specs.declared.Both.{Both}
 use Rattle.events.specs.declared.Cause.{Cause}
 use Rattle.events.specs.Voice.{Kit}
-use Rattle.events.specs.Start.{playerFrom, playerOf, droppedOne, startIn, markedBy, enteredBy, joinedBy, startedRegion, startedAll, releaseCause, releasesFired, firedFor, dispatchedRelease}
+use Rattle.events.specs.Start.{playerFrom, playerOf, droppedOne, startIn, markedBy, enteredBy, joinedBy, startedRegion, startedAll, releasesFired, firedFor, dispatchedRelease}
 
 -- ---- the list
 
@@ -245,3 +241,66 @@ module _ (k : Kit) (n : NoteState) (c : Cause) where
   unfolding startedAll
   all-seats [] b h = h
   all-seats (i ∷ is) b h = all-seats is (startedRegion k n c b i) (region-seats k n c b i h)
+
+-- ---- a note's release
+
+module _ (k : Kit) (m at : ℕ) (b : Both) where
+  pub releases-session : (n : NoteState) → SessionKept (serialUp (b .session)) (releasesFired k m n at b .session)
+  unfolding releasesFired
+  releases-session n = all-session k n _ _ (record { session = serialUp (b .session); voice = b .voice })
+
+  pub releases-voice : (n : NoteState) → VoiceKept (b .voice) (releasesFired k m n at b .voice)
+  unfolding releasesFired
+  releases-voice n = all-voice k n _ _ (record { session = serialUp (b .session); voice = b .voice })
+
+  pub releases-size : (n : NoteState) → length (b .session .players) ≡ 512 → length (releasesFired k m n at b .session .players) ≡ 512
+  unfolding releasesFired
+  releases-size n size = all-size k n _ _ (record { session = serialUp (b .session); voice = b .voice }) size
+
+  pub releases-places : (n : NoteState) → length (b .voice .players .players) ≡ 32 → length (releasesFired k m n at b .voice .players .players) ≡ 32
+  unfolding releasesFired
+  releases-places n size = all-places k n _ _ (record { session = serialUp (b .session); voice = b .voice }) size
+
+  pub releases-seats : (n : NoteState) → b .voice .players .count ≤ 32 → releasesFired k m n at b .voice .players .count ≤ 32
+  unfolding releasesFired
+  releases-seats n h = all-seats k n _ _ (record { session = serialUp (b .session); voice = b .voice }) h
+
+  -- with a note or without
+  pub dispatched-voice : VoiceKept (b .voice) (dispatchedRelease k m at b .voice)
+  unfolding dispatchedRelease
+  dispatched-voice = by-case (b .voice .note) where
+    by-case : (x : MaybeNote) → VoiceKept (b .voice) (firedFor k m at x b .voice)
+    by-case Absent = voice-same (b .voice)
+    by-case (Present n) = releases-voice n
+
+  pub dispatched-session : (t : Session) → t ≡ dispatchedRelease k m at b .session
+      → (t .seq ≡ b .session .seq) × (t .voices ≡ b .session .voices) × (t .held ≡ b .session .held)
+  unfolding dispatchedRelease
+  dispatched-session t e = by-case (b .voice .note) e where
+    by-case : (x : MaybeNote) → t ≡ firedFor k m at x b .session
+        → (t .seq ≡ b .session .seq) × (t .voices ≡ b .session .voices) × (t .held ≡ b .session .held)
+    by-case Absent f = (ap (λ (s : Session). s .seq) f, ap (λ (s : Session). s .voices) f, ap (λ (s : Session). s .held) f)
+    by-case (Present n) f =
+        let y = releases-session n in
+        (ap (λ (s : Session). s .seq) f ∙ y .seq, ap (λ (s : Session). s .voices) f ∙ y .voices, ap (λ (s : Session). s .held) f ∙ y .held)
+
+  pub dispatched-size : length (b .session .players) ≡ 512 → length (dispatchedRelease k m at b .session .players) ≡ 512
+  unfolding dispatchedRelease
+  dispatched-size size = by-case (b .voice .note) where
+    by-case : (x : MaybeNote) → length (firedFor k m at x b .session .players) ≡ 512
+    by-case Absent = size
+    by-case (Present n) = releases-size n size
+
+  pub dispatched-places : length (b .voice .players .players) ≡ 32 → length (dispatchedRelease k m at b .voice .players .players) ≡ 32
+  unfolding dispatchedRelease
+  dispatched-places size = by-case (b .voice .note) where
+    by-case : (x : MaybeNote) → length (firedFor k m at x b .voice .players .players) ≡ 32
+    by-case Absent = size
+    by-case (Present n) = releases-places n size
+
+  pub dispatched-seats : b .voice .players .count ≤ 32 → dispatchedRelease k m at b .voice .players .count ≤ 32
+  unfolding dispatchedRelease
+  dispatched-seats h = by-case (b .voice .note) where
+    by-case : (x : MaybeNote) → firedFor k m at x b .voice .players .count ≤ 32
+    by-case Absent = h
+    by-case (Present n) = releases-seats n h

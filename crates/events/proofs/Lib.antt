@@ -2,3 +2,4 @@ pub mod Starting
 pub mod Kept
 pub mod Turns
 pub mod Gates
+pub mod Enough

@@ -1,14 +1,13 @@
 -- What the tests of a start tell. Assumes nothing.
 use Prim.Native.Nat.{ℕ, _+_, _%_, _^_, _<_, _≤_}
-use mathlib.Core.Path.{_≡_, refl, sym, ap, _∙_}
+use mathlib.Core.Path.{_≡_, sym, ap, _∙_}
 use mathlib.Core.Bool.{Bool, true, false}
 use mathlib.Core.List.{List}
 use mathlib.Core.Logic.{_≢_}
-use lib.Dec.{ltb, leb, eqb}
+use lib.Dec.{ltb}
 use lib.Ieee.{Float}
 use native.Mathlib.Nat.{le-trans}
 use borrow.Author.Tests.{eq-eqb, ne-eqb, lt-ltb, le-ltb, lt-leb, le-leb}
-use Rattle.gain.specs.declared.Curve.{Curve}
 use Rattle.gain.specs.declared.Curve.the-variants.{NoCurve, At}
 use Rattle.player.specs.declared.Player.{Player}
 use Rattle.players.specs.declared.Players.{Players}

@@ -1,7 +1,7 @@
 -- What the tests of `reap`, `apply_off` and `own_offs` tell. Assumes nothing.
 use Prim.Native.Nat.{ℕ, zero, suc, _+_, _-_, _<_, _≤_}
 use mathlib.Core.Path.{_≡_, refl, sym, ap, _∙_}
-use mathlib.Core.Bool.{Bool, true, false, _&&_}
+use mathlib.Core.Bool.{Bool, true, false}
 use native.Mathlib.Omega.{arith}
 use Rattle.players.specs.Gate.{offedSlot}
 use Rattle.players.specs.Seats.{sounding, isOver, reaped}
@@ -9,7 +9,6 @@ use Rattle.players.specs.declared.Offed.{Offed}
 use Rattle.players.specs.declared.Reaped.{Reaped}
 use Rattle.session.specs.Lists.{pick, any}
 use Rattle.session.specs.Offs.{tookFirst}
-use Rattle.session.specs.declared.FirstOff.{FirstOff}
 use Rattle.session.specs.declared.FirstOff.the-variants.{Nothing, Taken}
 use Rattle.session.specs.declared.Off.{Off}
 use Rattle.session.specs.declared.Session.{Session}

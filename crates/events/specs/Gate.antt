@@ -12,7 +12,6 @@ use Rattle.note.specs.Note.{noteState}
 use Rattle.note.specs.Choice.{Hit, choosingOn}
 use Rattle.note.specs.declared.NoteState.{NoteState}
 use Rattle.note.specs.declared.Strike.{Strike}
-use Rattle.events.specs.declared.SampleVoice.{SampleVoice}
 use Rattle.events.specs.declared.Both.{Both}
 use Rattle.events.specs.declared.Cause.{Cause}
 use Rattle.events.specs.Voice.{Kit, withPlayers, struck, ungated}

@@ -10,7 +10,6 @@ use Rattle.session.specs.State.{view, relist, slotList}
 use Rattle.players.specs.declared.Reaped.{Reaped}
 use Rattle.session.specs.declared.FirstOff.{FirstOff}
 use Rattle.session.specs.declared.FirstOff.the-variants.{Nothing, Taken}
-use Rattle.session.specs.declared.Off.{Off}
 use Rattle.session.specs.declared.Session.{Session}
 use Rattle.note.specs.declared.NoteState.{NoteState}
 use Rattle.note.specs.declared.MaybeNote.{MaybeNote}

@@ -1,13 +1,12 @@
 -- A region starts: its marks on the session's list, then, where its voice has room, its record and its player. Definitions only.
 use Prim.Native.Nat.{ℕ, _+_, _-_, _%_, _^_}
-use mathlib.Core.Bool.{Bool, true, false}
-use mathlib.Core.List.{List, [], _∷_, foldl}
-use lib.ListN.{length, take, drop}
+use mathlib.Core.Bool.{false}
+use mathlib.Core.List.{List, foldl}
 use lib.Dec.{ltb, leb, eqb}
 use lib.IntN.{pos}
 use lib.Ieee.{Float, binary32, ofInt}
 use Rattle.exact.specs.Random.{drawn}
-use Rattle.exact.specs.Single.{_⊘_, f0}
+use Rattle.exact.specs.Single.{_⊘_}
 use Rattle.gain.specs.declared.Curve.{Curve}
 use Rattle.gain.specs.declared.Curve.the-variants.{NoCurve, At}
 use Rattle.player.specs.Start.{startedPlayer}

@@ -1,9 +1,8 @@
 -- A voice, and the voice with one part changed. Definitions only.
 use Prim.Native.Nat.{ℕ}
-use mathlib.Core.Bool.{Bool, true, false}
-use Rattle.session.specs.declared.Session.{Session}
+use mathlib.Core.Bool.{true, false}
 use Rattle.note.specs.declared.MaybeNote.{MaybeNote}
-use Rattle.note.specs.declared.MaybeNote.the-variants.{Absent, Present}
+use Rattle.note.specs.declared.MaybeNote.the-variants.{Present}
 use Rattle.note.specs.declared.NoteState.{NoteState}
 use Rattle.players.specs.declared.Players.{Players}
 use Rattle.program.specs.Region.{regionAt}
@@ -11,7 +10,6 @@ use Rattle.program.specs.Valid.{loopInOrder}
 use lib.Dec.{T}
 use mathlib.Core.List.{List}
 use Rattle.events.specs.declared.SampleVoice.{SampleVoice}
-use Rattle.events.specs.declared.Both.{Both}
 
 -- the program that a voice plays: its regions' words and its samples' words
 pub record Kit : Type 0 where

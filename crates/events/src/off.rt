@@ -1,7 +1,6 @@
 // Players that end leave the voice and the session's list; off marks that act: the Rust's `reap` and `apply_off`, and the off times
 // that a note-on leaves on its own voice's records.
 ghost use mathlib.Core.Path.{_≡_};
-ghost use mathlib.Core.Bool.{_&&_};
 ghost use Prim.Native.Nat.{_≤_};
 ghost use Rattle.players.specs.Seats.{PlayersOk};
 ghost use Rattle.events.specs.Voice.{Bindable, withPlayers, withNote};

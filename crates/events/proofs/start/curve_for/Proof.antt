@@ -2,9 +2,6 @@ use Rattle.events.proofs.Starting.{curve-none, curve-some}
 use borrow.Author.Needs.{needs}
 use Rattle.events.proofs.start.curve_for.Statement.{statement}
 use Rattle.events.proofs.start.curve_for.Tie as tie
-use Rattle.events.proofs.start.curve_for.Reads as reads
-use Rattle.events.proofs.start.curve_for.Lts as lts
-use Rattle.program.proofs.curve.velcurve.Reads as velcurve-reads
 
 returns : tie.Need-returns
 returns c = let a = c .before .before .before .args in curve-none _ (a .region) (a .ri) (a .vel) (c .if1 .taken)

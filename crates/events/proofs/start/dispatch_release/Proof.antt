@@ -2,9 +2,6 @@ use Rattle.events.proofs.Starting.{without-note, with-note}
 use borrow.Author.Needs.{needs}
 use Rattle.events.proofs.start.dispatch_release.Statement.{statement}
 use Rattle.events.proofs.start.dispatch_release.Tie as tie
-use Rattle.events.proofs.start.dispatch_release.Reads as reads
-use Rattle.events.proofs.start.dispatch_release.Lts as lts
-use Rattle.events.proofs.start.fire_releases.Reads as fire-releases-reads
 
 enum-told : tie.Need-enum-told
 enum-told c = search needs

@@ -2,8 +2,6 @@ use Rattle.events.proofs.Starting.{drop-more, drop-full}
 use borrow.Author.Needs.{needs}
 use Rattle.events.proofs.start.drop_one.Statement.{statement}
 use Rattle.events.proofs.start.drop_one.Tie as tie
-use Rattle.events.proofs.start.drop_one.Reads as reads
-use Rattle.events.proofs.start.drop_one.Lts as lts
 
 add-w : tie.Need-add-w
 add-w c = search needs

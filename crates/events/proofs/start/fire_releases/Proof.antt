@@ -2,13 +2,6 @@ use Rattle.events.proofs.Starting.{fired}
 use borrow.Author.Needs.{needs}
 use Rattle.events.proofs.start.fire_releases.Statement.{statement}
 use Rattle.events.proofs.start.fire_releases.Tie as tie
-use Rattle.events.proofs.start.fire_releases.Reads as reads
-use Rattle.events.proofs.start.fire_releases.Lts as lts
-use Rattle.events.proofs.start.held_for.Reads as held-for-reads
-use Rattle.events.proofs.start.start_all.Reads as start-all-reads
-use Rattle.exact.proofs.random.rand01.Reads as rand01-reads
-use Rattle.note.proofs.choice.choose_off.Reads as choose-off-reads
-use Rattle.session.proofs.next_serial.Reads as next-serial-reads
 
 next-serial-requires : tie.Need-next-serial-requires
 next-serial-requires c κs = search needs

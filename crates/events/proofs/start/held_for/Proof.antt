@@ -5,9 +5,6 @@ use Rattle.events.specs.Start.{heldFor}
 use borrow.Author.Needs.{needs}
 use Rattle.events.proofs.start.held_for.Statement.{statement}
 use Rattle.events.proofs.start.held_for.Tie as tie
-use Rattle.events.proofs.start.held_for.Reads as reads
-use Rattle.events.proofs.start.held_for.Lts as lts
-use Rattle.exact.proofs.cast.u64_to_f32.Reads as u64-to-f32-reads
 
 u64-to-f32-requires : tie.Need-u64-to-f32-requires
 u64-to-f32-requires c κs = search needs

@@ -2,10 +2,6 @@ use Rattle.events.proofs.Starting.{join-is}
 use borrow.Author.Needs.{needs}
 use Rattle.events.proofs.start.join.Statement.{statement}
 use Rattle.events.proofs.start.join.Tie as tie
-use Rattle.events.proofs.start.join.Reads as reads
-use Rattle.events.proofs.start.join.Lts as lts
-use Rattle.players.proofs.push.Reads as push-reads
-use Rattle.std.proofs.num.wrapping_add_u32.Reads as wrapping-add-u32-reads
 
 wrapping-add-u32-requires : tie.Need-wrapping-add-u32-requires
 wrapping-add-u32-requires c κs = search needs

@@ -1,8 +1,6 @@
 use borrow.Author.Needs.{needs}
 use Rattle.events.proofs.start.limit_in.Statement.{statement}
 use Rattle.events.proofs.start.limit_in.Tie as tie
-use Rattle.events.proofs.start.limit_in.Reads as reads
-use Rattle.events.proofs.start.limit_in.Lts as lts
 
 enum-told : tie.Need-enum-told
 enum-told c = search needs

@@ -4,8 +4,6 @@ use mir.Syntax.{w32}
 use borrow.Author.Needs.{needs}
 use Rattle.events.proofs.start.off_by_in.Statement.{statement}
 use Rattle.events.proofs.start.off_by_in.Tie as tie
-use Rattle.events.proofs.start.off_by_in.Reads as reads
-use Rattle.events.proofs.start.off_by_in.Lts as lts
 
 enum-told : tie.Need-enum-told
 enum-told c = search needs

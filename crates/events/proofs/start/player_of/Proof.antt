@@ -1,4 +1,4 @@
-use mathlib.Core.Path.{_≡_, sym, subst}
+use mathlib.Core.Path.{sym, subst}
 use native.Mathlib.Omega.{arith}
 use Rattle.events.specs.Start.{playerFrom}
 use Rattle.player.proofs.Starts.{started-sound}
@@ -6,11 +6,6 @@ use Rattle.player.specs.Bounds.{PlayerOk}
 use borrow.Author.Needs.{needs}
 use Rattle.events.proofs.start.player_of.Statement.{statement}
 use Rattle.events.proofs.start.player_of.Tie as tie
-use Rattle.events.proofs.start.player_of.Reads as reads
-use Rattle.events.proofs.start.player_of.Lts as lts
-use Rattle.events.proofs.start.curve_for.Reads as curve-for-reads
-use Rattle.player.proofs.start.start.Reads as start-reads
-use Rattle.program.proofs.sample.sample_at.Reads as sample-at-reads
 
 sample-at-requires : tie.Need-sample-at-requires
 sample-at-requires c κs = search needs

@@ -9,10 +9,6 @@ use Rattle.players.specs.Seats.{PlayersOk}
 use Rattle.events.specs.Start.{startedRegion, startedAll}
 use Rattle.events.proofs.start.start_all.Statement.{statement}
 use Rattle.events.proofs.start.start_all.Tie as tie
-use Rattle.events.proofs.start.start_all.Reads as reads
-use Rattle.events.proofs.start.start_all.Lts as lts
-use Rattle.events.proofs.start.start_region.Reads as start-region-reads
-use Rattle.events.proofs.start.used.Reads as used-reads
 
 abbrev Inv-loop : tie.InvT-loop
 Inv-loop words samples ns c chosen n b₀ i₀ b i = (i ≤ n) × (n ≤ 256) × (length (chosen .regions) ≡ 256) × (b ≡ foldl (startedRegion (record { words = words; samples = samples }) ns c) b₀ (take i (chosen .regions))) × PlayersOk (b .voice .players)

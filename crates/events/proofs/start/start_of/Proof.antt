@@ -5,10 +5,6 @@ use Rattle.events.specs.Start.{startOf}
 use borrow.Author.Needs.{needs}
 use Rattle.events.proofs.start.start_of.Statement.{statement}
 use Rattle.events.proofs.start.start_of.Tie as tie
-use Rattle.events.proofs.start.start_of.Reads as reads
-use Rattle.events.proofs.start.start_of.Lts as lts
-use Rattle.events.proofs.start.limit_in.Reads as limit-in-reads
-use Rattle.events.proofs.start.off_by_in.Reads as off-by-in-reads
 
 off-by-in-requires : tie.Need-off-by-in-requires
 off-by-in-requires c κs = search needs

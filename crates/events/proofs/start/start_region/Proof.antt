@@ -1,20 +1,10 @@
-use mathlib.Core.Path.{_≡_, sym, subst}
-use native.Mathlib.Omega.{arith}
+use mathlib.Core.Path.{sym, subst}
 use Rattle.events.proofs.Starting.{region-dropped, region-started}
 use Rattle.players.specs.Seats.{PlayersOk}
 use Rattle.events.specs.declared.SampleVoice.{SampleVoice}
 use borrow.Author.Needs.{needs}
 use Rattle.events.proofs.start.start_region.Statement.{statement}
 use Rattle.events.proofs.start.start_region.Tie as tie
-use Rattle.events.proofs.start.start_region.Reads as reads
-use Rattle.events.proofs.start.start_region.Lts as lts
-use Rattle.events.proofs.start.drop_one.Reads as drop-one-reads
-use Rattle.events.proofs.start.join.Reads as join-reads
-use Rattle.events.proofs.start.player_of.Reads as player-of-reads
-use Rattle.events.proofs.start.start_of.Reads as start-of-reads
-use Rattle.program.proofs.region.region_at.Reads as region-at-reads
-use Rattle.session.proofs.enter_record.Reads as enter-record-reads
-use Rattle.session.proofs.start_marks.Reads as start-marks-reads
 
 region-at-requires : tie.Need-region-at-requires
 region-at-requires c κs = search needs

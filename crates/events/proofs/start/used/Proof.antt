@@ -1,8 +1,6 @@
 use borrow.Author.Tests.{le-ltb, lt-ltb}
 use Rattle.events.proofs.start.used.Statement.{statement}
 use Rattle.events.proofs.start.used.Tie as tie
-use Rattle.events.proofs.start.used.Reads as reads
-use Rattle.events.proofs.start.used.Lts as lts
 
 returns : tie.Need-returns
 returns c = simp (lt-ltb _ _ (c .if1 .taken))
