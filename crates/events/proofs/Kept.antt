@@ -17,6 +17,7 @@ use Rattle.session.specs.State.{view, serialUp}
 use Rattle.session.specs.declared.PlayerRecord.{PlayerRecord}
 use Rattle.session.specs.declared.Session.{Session}
 use Rattle.session.specs.declared.Start.{Start}
+use Rattle.session.proofs.Laws.{enter-room}
 use Rattle.session.proofs.Relist.{view-few, view-relist, relist-size}
 use Rattle.session.proofs.Yield.{length-marks}
 use Rattle.note.specs.declared.MaybeNote.{MaybeNote}
@@ -162,6 +163,14 @@ module _ (k : Kit) (n : NoteState) (c : Cause) (b : Both) (i : ℕ) where
         ap (λ (x : Both). view (x .session)) (is-joined h)
         ∙ view-entered st (markedBy st (b .session)) (size-marked st (b .session) size) (b .voice .«next_slot»)
         ∙ ap (enter (entered st (b .voice .«next_slot»))) (view-marked st (b .session) size)
+
+    -- a list that has room keeps its records, marked or not, and has the new one at its end
+    pub joined-room : b .voice .players .count < 32 → length (view (b .session)) < 512
+        → view (startedRegion k n c b i .session)
+        ≡ startMarks (startIn k n c (b .voice) i) (view (b .session)) ++ (entered (startIn k n c (b .voice) i) (b .voice .«next_slot») ∷ [])
+    joined-room h room =
+        let st = startIn k n c (b .voice) i in
+        joined-list h ∙ enter-room (entered st (b .voice .«next_slot»)) (startMarks st (view (b .session))) (omega (arith, length-marks st (view (b .session))))
 
     pub region-size : length (startedRegion k n c b i .session .players) ≡ 512
     unfolding startedRegion

@@ -3,3 +3,4 @@ pub mod Kept
 pub mod Turns
 pub mod Gates
 pub mod Enough
+pub mod Edges
