@@ -337,9 +337,14 @@ fn main() {
         std::process::exit((bad > 0) as i32);
     }
     let rounds = arg(2).and_then(|x| x.parse().ok()).unwrap_or(31);
-    bench("sinc stereo, step 1.0227", 2, true, 1.0227, 0, 60, rounds);
-    bench("sinc mono, step 1.0227", 2, false, 1.0227, 0, 60, rounds);
-    bench("Hermite mono, two biquads", 1, false, 1.0227, 2, 300, rounds);
-    bench("linear mono", 0, false, 1.0227, 0, 600, rounds);
-    bench("unity copy, sinc quality", 2, false, 1.0, 0, 1000, rounds);
+    let only = arg(3).unwrap_or_default();
+    for (name, kind, stereo, step, filters, blocks) in [
+        ("sinc stereo, step 1.0227", 2, true, 1.0227, 0, 60),
+        ("sinc mono, step 1.0227", 2, false, 1.0227, 0, 60),
+        ("Hermite mono, two biquads", 1, false, 1.0227, 2, 300),
+        ("linear mono", 0, false, 1.0227, 0, 600),
+        ("unity copy, sinc quality", 2, false, 1.0, 0, 1000),
+    ] {
+        if name.contains(&only) { bench(name, kind, stereo, step, filters, blocks, rounds); }
+    }
 }

@@ -89,7 +89,7 @@ module _ (L D : ℕ) (d : 0 < D) (l : L ≤ 2 ^ 53) (x : Float) (A : ℕ) (v : H
       clash a b p q = omega arith
 
 -- ---- the turns
-still : (limit size : Float) (n : ℕ) (x : Float) → le limit x ≡ false → lessWhile limit size n x ≡ x
+pub still : (limit size : Float) (n : ℕ) (x : Float) → le limit x ≡ false → lessWhile limit size n x ≡ x
 unfolding lessWhile
 still limit size zero x p = refl
 still limit size (suc n) x p = rw p

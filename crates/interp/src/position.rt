@@ -40,9 +40,8 @@ pub fn is_whole(p: f64) -> bool
     p - floor(p) == 0.0
 }
 
-// A position in the loop from start to end: the loop's size comes off until the position is below end + 1. Each difference
-// is exact, so that all of them are one.
-pub fn wrap(p: f64, start: u32, end: u32) -> f64
+// The loop's size off a position until it is below end + 1. Each difference is exact, so that all of them are one.
+fn turned(p: f64, start: u32, end: u32) -> f64
     requires { ⌜ Position p × (start ≤ end) ⌝ }
     ensures { λ r. ⌜ (r ≡ looped start end p) × Position r ⌝ }
 {
@@ -54,4 +53,16 @@ pub fn wrap(p: f64, start: u32, end: u32) -> f64
     let size = limit - (start as u64);
     let turns = (t - limit) / size + 1;
     p - ((turns * size) as f64)
+}
+
+// A position in the loop from start to end. Most are below end + 1, which one test shows.
+pub fn wrap(p: f64, start: u32, end: u32) -> f64
+    requires { ⌜ Position p × (start ≤ end) ⌝ }
+    ensures { λ r. ⌜ (r ≡ looped start end p) × Position r ⌝ }
+{
+    let limit = (end as u64) + 1;
+    if p >= (limit as f64) {
+        return turned(p, start, end);
+    }
+    p
 }
