@@ -24,7 +24,7 @@ floor-zero (fin s m e) h t =
     let q : m * up e / down e ≡ 0 = ap (λ (a : ℕ). a / down e) y ∙ zero-div (down e) in
     rw q (whole-unique binary64 (fin s m e) (round binary64 s 0 1) s 0 h (round-fits binary64 s 0 1) (refl, omega arith) (round-whole binary64 s 0 (omega arith)))
 
-zero-eq : (m : ℕ) (e : ℤ) → 0 * 1 * down e ≡ m * up e * 1 → eq (fin true m e) first ≡ true
+pub zero-eq : (m : ℕ) (e : ℤ) → 0 * 1 * down e ≡ m * up e * 1 → eq (fin true m e) first ≡ true
 unfolding eq ofBits
 zero-eq m e z =
     let a : eqb (m * up e * 1) (0 * 1 * down e) ≡ true = is-true _ (eq→eqb (sym z)) in

@@ -156,9 +156,12 @@ fn in_fade(l: LoopRt, p: f64) -> bool
     ensures { λ r. ⌜ r ≡ inFade l p ⌝ }
 {
     if l.xf > 0 {
-        let idx = floor(p);
-        if idx >= (l.start as f64) {
-            return idx >= (l.xf_out_start as f64);
+        // most positions are not, and need no floor
+        if p >= (l.xf_out_start as f64) {
+            let idx = floor(p);
+            if idx >= (l.start as f64) {
+                return idx >= (l.xf_out_start as f64);
+            }
         }
     }
     false
