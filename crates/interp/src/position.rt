@@ -37,7 +37,7 @@ pub fn is_whole(p: f64) -> bool
     requires { ⌜ Position p ⌝ }
     ensures { λ r. ⌜ r ≡ isWhole p ⌝ }
 {
-    p - floor(p) == 0.0
+    p - (frame_index(p) as f64) == 0.0
 }
 
 // The loop's size off a position until it is below end + 1. Each difference is exact, so that all of them are one.

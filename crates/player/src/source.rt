@@ -219,12 +219,12 @@ fn crossfade(
     ensures { λ r. ⌜ r ≡ crossfaded cold (record { a = now (a .entry); b = now (b .entry); table = now (table .entry) }) lp stored p v ⌝ }
 {
     match lp {
-        MaybeLoop::Absent => v,
+        MaybeLoop::Absent => Pair { l: v.l, r: v.r },
         MaybeLoop::Present(l) => {
             if in_fade(l, p) {
                 return fade(cold, a, b, table, stored, fade_of(l, p), p - l.size, v);
             }
-            v
+            Pair { l: v.l, r: v.r }
         }
     }
 }
