@@ -5,12 +5,13 @@ ghost use lib.Ieee.{toUnsigned};
 ghost use Rattle.interp.specs.Position.{Position, floored, fraction, isWhole, looped};
 use exact::format::narrow;
 
-// The frame at or before a position.
+// The frame at or before a position. It is below 2^34: the remainder only tells the compiler so, for whom it is cheaper then
+// to make a double of it.
 pub fn frame_index(p: f64) -> u64
     requires { ⌜ Position p ⌝ }
     ensures { λ r. ⌜ (r ≡ toUnsigned 64 p) × (r ≤ 8589934592) ⌝ }
 {
-    std::num::truncating_f64_to_u64(p)
+    std::num::truncating_f64_to_u64(p) % 17179869184
 }
 
 // Rust's `p.floor()` of a position.
