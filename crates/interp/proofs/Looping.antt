@@ -17,8 +17,9 @@ use lib.Ieee.Fits.{down-pos, and-l, and-r}
 use lib.Ieee.Order.{transfer, le-of-values}
 use lib.Ieee.Scale.{round-same}
 use lib.Ieee.{Float, nan, inf, fin, binary64, prec, low, emax, up, down, round, add, sub, neg, sum, le, lt, eq, ofInt, ofBits, toUnsigned, fits}
-use Rattle.interp.specs.Position.{Position, double, lessWhile, first, furthest}
+use Rattle.interp.specs.Position.{Position, double, floored, lessWhile, first, furthest}
 use Rattle.interp.proofs.Difference.{differ}
+use Rattle.interp.proofs.Floor.{floor-zero, zero-eq}
 use Rattle.interp.proofs.Range.{at-most, position-within, position-most}
 
 -- ---- a denominator of doubles
@@ -89,7 +90,7 @@ module _ (L D : ℕ) (d : 0 < D) (l : L ≤ 2 ^ 53) (x : Float) (A : ℕ) (v : H
       clash a b p q = omega arith
 
 -- ---- the turns
-still : (limit size : Float) (n : ℕ) (x : Float) → le limit x ≡ false → lessWhile limit size n x ≡ x
+pub still : (limit size : Float) (n : ℕ) (x : Float) → le limit x ≡ false → lessWhile limit size n x ≡ x
 unfolding lessWhile
 still limit size zero x p = refl
 still limit size (suc n) x p = rw p
@@ -247,3 +248,22 @@ stays (fin false m e) t L size n p q h l =
     let w : min (m * up e / down e) (2 ^ 64 - 1) ≤ 8589934592 = position-within (fin false m e) p .small in
     let k : m * up e / down e < L = omega arith in
     sym (still (double L) size n (fin false m e) (short L (down e) d (omega arith) (fin false m e) (m * up e) (refl, refl) (div-lt-iff-lt-mul d .0 k)))
+
+-- ---- a whole number above a position is above its floor
+pub floor-below : (n : ℕ) (p : Float) → Position p → T (fits binary64 p) → n ≤ 2 ^ 53 → le (double n) p ≡ false → le (double n) (floored p) ≡ false
+unfolding toUnsigned le lt eq ofBits floored
+floor-below n nan h f l b = absurd (h .high)
+floor-below n (inf true) h f l b = absurd (h .low)
+floor-below n (inf false) h f l b = absurd (h .high)
+floor-below n (fin true m e) h f l b =
+    let z : 0 * 1 * down e ≡ m * up e * 1 = eqb→eq (0 * 1 * down e) (m * up e * 1) (and-l (eqb (0 * 1 * down e) (m * up e * 1)) _ (h .low)) in
+    subst (λ (x : Float). le (double n) x ≡ false) (floor-zero (fin true m e) f (subst T (sym (zero-eq m e z)) tt)) b
+floor-below n (fin false m e) h f l b =
+    let w : min (m * up e / down e) (2 ^ 64 - 1) ≤ 8589934592 = position-within (fin false m e) h .small in
+    let k : m * up e / down e ≤ 8589934592 = omega arith in
+    let v : HasValue (round binary64 false (m * up e / down e) 1) false (m * up e / down e) 1 = round-whole binary64 false (m * up e / down e) (omega arith) in
+    refute (le (double n) (round binary64 false (m * up e / down e) 1))
+    (λ (t : T (le (double n) (round binary64 false (m * up e / down e) 1))).
+    let a : n * 1 ≤ m * up e / down e * 1 = le-values (double n) (round binary64 false (m * up e / down e) 1) n 1 (m * up e / down e) 1 (double-value n l) v t in
+    let c : n * down e ≤ m * up e / down e * down e = mul-le-mul-right (down e) (omega arith) in
+    true≢false (sym (reaches n (down e) (down-pos e) l (fin false m e) (m * up e) (refl, refl) (le-trans c (div-mul-le-self (m * up e) (down e)))) ∙ b))

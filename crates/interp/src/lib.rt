@@ -72,8 +72,22 @@ pub fn read_pair(
     if stereo {
         return read_both(kind, a, b, p, table, span);
     }
-    let l = read(kind, a, p, table, span);
+    let l = read_mono(kind, a, p, table, span);
     Pair { l, r: 0.0 }
+}
+
+// The channel of a mono sample. It is `read` with one caller, so that it is compiled into the loop over frames.
+fn read_mono(kind: Interp, frames: &[f32], p: f64, table: &[f32], span: SincSpan) -> f32
+    requires { ⌜ Position p × (length (now table) ≡ 8194) × (span .half ≤ 40) ⌝ }
+    ensures { λ r. ⌜ r ≡ readAt kind (now (frames .entry)) p (now (table .entry)) span ⌝ }
+{
+    let n = (frame_index(p) as usize) + PCM_PAD;
+    let f = fraction(p);
+    match kind {
+        Interp::Linear => linear(frames, n, f),
+        Interp::Hermite => hermite(frames, n, f),
+        Interp::Sinc => sinc::sinc(table, frames, span, n, f),
+    }
 }
 
 // Both channels of a stereo sample.

@@ -5,12 +5,13 @@ ghost use lib.Ieee.{toUnsigned};
 ghost use Rattle.interp.specs.Position.{Position, floored, fraction, isWhole, looped};
 use exact::format::narrow;
 
-// The frame at or before a position.
+// The frame at or before a position. It is below 2^34: the remainder only tells the compiler so, for whom it is cheaper then
+// to make a double of it.
 pub fn frame_index(p: f64) -> u64
     requires { ⌜ Position p ⌝ }
     ensures { λ r. ⌜ (r ≡ toUnsigned 64 p) × (r ≤ 8589934592) ⌝ }
 {
-    std::num::truncating_f64_to_u64(p)
+    std::num::truncating_f64_to_u64(p) % 17179869184
 }
 
 // Rust's `p.floor()` of a position.
@@ -37,12 +38,11 @@ pub fn is_whole(p: f64) -> bool
     requires { ⌜ Position p ⌝ }
     ensures { λ r. ⌜ r ≡ isWhole p ⌝ }
 {
-    p - floor(p) == 0.0
+    p - (frame_index(p) as f64) == 0.0
 }
 
-// A position in the loop from start to end: the loop's size comes off until the position is below end + 1. Each difference
-// is exact, so that all of them are one.
-pub fn wrap(p: f64, start: u32, end: u32) -> f64
+// The loop's size off a position until it is below end + 1. Each difference is exact, so that all of them are one.
+fn turned(p: f64, start: u32, end: u32) -> f64
     requires { ⌜ Position p × (start ≤ end) ⌝ }
     ensures { λ r. ⌜ (r ≡ looped start end p) × Position r ⌝ }
 {
@@ -54,4 +54,16 @@ pub fn wrap(p: f64, start: u32, end: u32) -> f64
     let size = limit - (start as u64);
     let turns = (t - limit) / size + 1;
     p - ((turns * size) as f64)
+}
+
+// A position in the loop from start to end. Most are below end + 1, which one test shows.
+pub fn wrap(p: f64, start: u32, end: u32) -> f64
+    requires { ⌜ Position p × (start ≤ end) ⌝ }
+    ensures { λ r. ⌜ (r ≡ looped start end p) × Position r ⌝ }
+{
+    let limit = (end as u64) + 1;
+    if p >= (limit as f64) {
+        return turned(p, start, end);
+    }
+    p
 }

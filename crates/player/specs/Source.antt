@@ -52,11 +52,14 @@ atEnd (Present l) last p = false
 unfoldable pub isUnity : Float → Float → Bool
 isUnity step p = eq step (ofBits binary64 0x3ff0_0000_0000_0000) && isWhole p
 
+-- both channels of the stored frame at p
+abbrev pub storedAt : Bool → List Float → List Float → Float → Pair
+storedAt stereo a b p = let n = toUnsigned 64 p + pad in record { l = frameAt a n; r = cond stereo (frameAt b n) f0 }
+
 -- both channels at p: the stored frame, or between frames by the kernel
 unfoldable pub frameOf : Interp → SincSpan → Bool → Lent → Bool → Float → Pair
 frameOf kind span stereo s stored p =
-    let n = toUnsigned 64 p + pad in
-    cond stored (record { l = frameAt (s .a) n; r = cond stereo (frameAt (s .b) n) f0 })
+    cond stored (storedAt stereo (s .a) (s .b) p)
     (pairAt kind (s .a) (s .b) stereo p (s .table) span)
 
 -- by a player's own kernel

@@ -6,7 +6,7 @@ ghost use lib.Ieee.{le};
 ghost use lib.ListN.{length};
 ghost use Rattle.interp.specs.Position.{Position, furthest};
 ghost use Rattle.player.specs.Bounds.{LoopOk, Wrapped, ColdOk};
-ghost use Rattle.player.specs.Source.{Lent, currentLoop, placeIn, atEnd, isUnity, frameOf, sCurve, fadeOf, inFade, faded, crossfaded, readFrame};
+ghost use Rattle.player.specs.Source.{Lent, currentLoop, placeIn, atEnd, isUnity, storedAt, frameOf, sCurve, fadeOf, inFade, faded, crossfaded, readFrame};
 use super::Cold;
 use super::Hot;
 use super::LoopRt;
@@ -83,9 +83,23 @@ fn unity(step: f64, p: f64) -> bool
     false
 }
 
+// Both channels of the stored frame at the position p.
+fn stored_frame(stereo: bool, a: &[f32], b: &[f32], p: f64) -> Pair
+    requires { ⌜ Position p ⌝ }
+    ensures { λ r. ⌜ r ≡ storedAt stereo (now (a .entry)) (now (b .entry)) p ⌝ }
+{
+    let n = (frame_index(p) as usize) + PCM_PAD;
+    let l = frame_at(a, n);
+    if stereo {
+        let r = frame_at(b, n);
+        return Pair { l, r };
+    }
+    Pair { l, r: 0.0 }
+}
+
 // Both channels at the position p: as stored, or by the kernel.
 fn frame(
-    interp: Interp,
+    kind: Interp,
     span: SincSpan,
     stereo: bool,
     a: &[f32],
@@ -95,18 +109,38 @@ fn frame(
     p: f64,
 ) -> Pair
     requires { ⌜ Position p × (length (now table) ≡ 8194) × (span .half ≤ 40) ⌝ }
-    ensures { λ r. ⌜ r ≡ frameOf interp span stereo (record { a = now (a .entry); b = now (b .entry); table = now (table .entry) }) stored p ⌝ }
+    ensures { λ r. ⌜ r ≡ frameOf kind span stereo (record { a = now (a .entry); b = now (b .entry); table = now (table .entry) }) stored p ⌝ }
 {
     if stored {
-        let n = (frame_index(p) as usize) + PCM_PAD;
-        let l = frame_at(a, n);
-        if stereo {
-            let r = frame_at(b, n);
-            return Pair { l, r };
-        }
-        return Pair { l, r: 0.0 };
+        return stored_frame(stereo, a, b, p);
     }
-    read_pair(interp, a, b, stereo, p, table, span)
+    read_pair(kind, a, b, stereo, p, table, span)
+}
+
+// The same for the frame that a fade brings in, a channel at a time: fades are short, and what reads every frame keeps one
+// caller, so that it is compiled into the loop over frames.
+fn incoming(
+    kind: Interp,
+    span: SincSpan,
+    stereo: bool,
+    a: &[f32],
+    b: &[f32],
+    table: &[f32],
+    stored: bool,
+    p: f64,
+) -> Pair
+    requires { ⌜ Position p × (length (now table) ≡ 8194) × (span .half ≤ 40) ⌝ }
+    ensures { λ r. ⌜ r ≡ frameOf kind span stereo (record { a = now (a .entry); b = now (b .entry); table = now (table .entry) }) stored p ⌝ }
+{
+    if stored {
+        return stored_frame(stereo, a, b, p);
+    }
+    let l = interp::read(kind, a, p, table, span);
+    if stereo {
+        let r = interp::read(kind, b, p, table, span);
+        return Pair { l, r };
+    }
+    Pair { l, r: 0.0 }
 }
 
 // From 0 to 1 along half a turn of the cosine.
@@ -122,9 +156,12 @@ fn in_fade(l: LoopRt, p: f64) -> bool
     ensures { λ r. ⌜ r ≡ inFade l p ⌝ }
 {
     if l.xf > 0 {
-        let idx = floor(p);
-        if idx >= (l.start as f64) {
-            return idx >= (l.xf_out_start as f64);
+        // most positions are not, and need no floor
+        if p >= (l.xf_out_start as f64) {
+            let idx = floor(p);
+            if idx >= (l.start as f64) {
+                return idx >= (l.xf_out_start as f64);
+            }
         }
     }
     false
@@ -155,9 +192,9 @@ fn fade(
     let l = v.l * g_out;
     let r = v.r * g_out;
     if q >= 0.0 {
-        let interp = cold.interp;
+        let kind = cold.interp;
         let span = cold.span;
-        let w = frame(interp, span, cold.stereo, a, b, table, stored, q);
+        let w = incoming(kind, span, cold.stereo, a, b, table, stored, q);
         let g_in = s_curve(t);
         return Pair {
             l: l + g_in * w.l,
@@ -182,12 +219,12 @@ fn crossfade(
     ensures { λ r. ⌜ r ≡ crossfaded cold (record { a = now (a .entry); b = now (b .entry); table = now (table .entry) }) lp stored p v ⌝ }
 {
     match lp {
-        MaybeLoop::Absent => v,
+        MaybeLoop::Absent => Pair { l: v.l, r: v.r },
         MaybeLoop::Present(l) => {
             if in_fade(l, p) {
                 return fade(cold, a, b, table, stored, fade_of(l, p), p - l.size, v);
             }
-            v
+            Pair { l: v.l, r: v.r }
         }
     }
 }
@@ -226,10 +263,10 @@ pub fn read(hot: Hot, cold: Cold, a: &[f32], b: &[f32], table: &[f32]) -> Source
             r: 0.0,
         };
     }
-    let interp = cold.interp;
+    let kind = cold.interp;
     let span = cold.span;
     let stored = unity(cold.step, p);
-    let v = frame(interp, span, cold.stereo, a, b, table, stored, p);
+    let v = frame(kind, span, cold.stereo, a, b, table, stored, p);
     let w = crossfade(cold, a, b, table, lp, stored, p, v);
     h.pos = p + cold.step;
     Source {

@@ -6,15 +6,15 @@ use Rattle.player.proofs.source.fade.Tie as tie
 s-curve-requires : tie.Need-s-curve-requires
 s-curve-requires c κs = search needs
 
-frame-requires : tie.Need-frame-requires
-frame-requires c κs = search needs
+incoming-requires : tie.Need-incoming-requires
+incoming-requires c κs = search needs
 
 s-curve-requires-2 : tie.Need-s-curve-requires-2
 s-curve-requires-2 c κs = search needs
 
 returns : tie.Need-returns
 unfolding faded
-returns c = rw (c .before .before .before .before .before .if1 .taken, c .before .before .s-curve2 .ensures, c .before .before .before .frame .ensures, c .before .before .before .before .before .before .before .before .s-curve .ensures)
+returns c = rw (c .before .before .before .before .before .if1 .taken, c .before .before .s-curve2 .ensures, c .before .before .before .incoming .ensures, c .before .before .before .before .before .before .before .before .s-curve .ensures)
 
 returns-2 : tie.Need-returns-2
 unfolding faded
@@ -22,4 +22,4 @@ returns-2 c = rw (c .if1 .left, c .before .before .before .s-curve .ensures)
 
 pub fade-spec : {M : Type 1} → statement M
 fade-spec =
-    tie.close (tie.spec s-curve-requires frame-requires s-curve-requires-2 returns returns-2)
+    tie.close (tie.spec s-curve-requires incoming-requires s-curve-requires-2 returns returns-2)
