@@ -2,7 +2,7 @@
 ghost use mathlib.Core.Path.{_≡_};
 ghost use Prim.Native.Nat.{_+_, _*_, _≤_, _<_};
 ghost use lib.ListN.{length};
-ghost use Rattle.program.specs.Region.{floatOf, signedOf, byteOf, loopModeOf, loopSourceOf, triggerOf, offModeOf, filterKindOf, eqKindOf, maybeOf, offByOf, loopPointsOf, seqOf, randOf, crossfadeOf, envelopeOf, filterOf, filtersOf, bandOf, bandsOf, windowOf, pitchOf, playbackOf, levelOf, choiceOf, chokeOf, regionOf, regionAt};
+ghost use Rattle.program.specs.Region.{word, single, floatOf, signedOf, byteOf, loopModeOf, loopSourceOf, triggerOf, offModeOf, filterKindOf, eqKindOf, maybeOf, offByOf, loopPointsOf, seqOf, randOf, crossfadeOf, envelopeOf, filterOf, filtersOf, bandOf, bandsOf, windowOf, pitchOf, playbackOf, levelOf, choiceOf, chokeOf, regionOf, regionAt};
 
 // Words of one region.
 pub const REGION_WORDS: usize = 392;
@@ -363,6 +363,22 @@ fn rand_of(present: u32, lo: u32, hi: u32) -> Rand
     Rand::Within { lo: l, hi: h }
 }
 
+// The single at word `k`.
+fn float_at(r: &[u32], k: usize) -> f32
+    requires { ⌜ k < length (now r) ⌝ }
+    ensures { λ x. ⌜ x ≡ single (now (r .entry)) k ⌝ }
+{
+    float_of(r[k])
+}
+
+// The byte at word `k`.
+fn byte_at(r: &[u32], k: usize) -> u8
+    requires { ⌜ k < length (now r) ⌝ }
+    ensures { λ x. ⌜ x ≡ byteOf (word (now (r .entry)) k) ⌝ }
+{
+    byte_of(r[k])
+}
+
 fn crossfade_of(r: &[u32]) -> XfVel
     requires { ⌜ length (now r) ≡ 392 ⌝ }
     ensures { λ x. ⌜ x ≡ crossfadeOf (now (r .entry)) ⌝ }
@@ -371,10 +387,10 @@ fn crossfade_of(r: &[u32]) -> XfVel
         return XfVel::NoCrossfade;
     }
     XfVel::Crossfade(VelCrossfade {
-        in_lo: float_of(r[34]),
-        in_hi: float_of(r[35]),
-        out_lo: float_of(r[36]),
-        out_hi: float_of(r[37]),
+        in_lo: float_at(r, 34),
+        in_hi: float_at(r, 35),
+        out_lo: float_at(r, 36),
+        out_hi: float_at(r, 37),
         gain_curve: r[38] != 0,
     })
 }
@@ -384,13 +400,13 @@ fn envelope_of(r: &[u32]) -> Envelope
     ensures { λ e. ⌜ e ≡ envelopeOf (now (r .entry)) ⌝ }
 {
     Envelope {
-        delay: float_of(r[43]),
-        attack: float_of(r[44]),
-        hold: float_of(r[45]),
-        decay: float_of(r[46]),
-        sustain: float_of(r[50]),
-        release: float_of(r[47]),
-        start: float_of(r[51]),
+        delay: float_at(r, 43),
+        attack: float_at(r, 44),
+        hold: float_at(r, 45),
+        decay: float_at(r, 46),
+        sustain: float_at(r, 50),
+        release: float_at(r, 47),
+        start: float_at(r, 51),
     }
 }
 
@@ -401,12 +417,12 @@ fn filter_of(r: &[u32], at: usize) -> Filter
 {
     Filter {
         kind: filter_kind_of(r[at]),
-        cutoff: float_of(r[at + 2]),
-        resonance: float_of(r[at + 3]),
-        keytrack: float_of(r[at + 4]),
-        keycenter: byte_of(r[at + 1]),
-        veltrack: float_of(r[at + 5]),
-        gain: float_of(r[at + 6]),
+        cutoff: float_at(r, at + 2),
+        resonance: float_at(r, at + 3),
+        keytrack: float_at(r, at + 4),
+        keycenter: byte_at(r, at + 1),
+        veltrack: float_at(r, at + 5),
+        gain: float_at(r, at + 6),
     }
 }
 
@@ -431,11 +447,11 @@ fn band_of(r: &[u32], at: usize) -> EqBand
 {
     EqBand {
         kind: eq_kind_of(r[at]),
-        freq: float_of(r[at + 1]),
-        bw: float_of(r[at + 2]),
-        gain: float_of(r[at + 3]),
-        vel2freq: float_of(r[at + 4]),
-        vel2gain: float_of(r[at + 5]),
+        freq: float_at(r, at + 1),
+        bw: float_at(r, at + 2),
+        gain: float_at(r, at + 3),
+        vel2freq: float_at(r, at + 4),
+        vel2gain: float_at(r, at + 5),
     }
 }
 
@@ -458,10 +474,10 @@ pub(crate) fn window_of(r: &[u32]) -> Window
     ensures { λ x. ⌜ x ≡ windowOf (now (r .entry)) ⌝ }
 {
     Window {
-        lokey: byte_of(r[1]),
-        hikey: byte_of(r[2]),
-        lovel: byte_of(r[3]),
-        hivel: byte_of(r[4]),
+        lokey: byte_at(r, 1),
+        hikey: byte_at(r, 2),
+        lovel: byte_at(r, 3),
+        hivel: byte_at(r, 4),
     }
 }
 
@@ -470,12 +486,12 @@ fn pitch_of(r: &[u32]) -> Pitch
     ensures { λ x. ⌜ x ≡ pitchOf (now (r .entry)) ⌝ }
 {
     Pitch {
-        pitch_keycenter: byte_of(r[5]),
-        pitch_keytrack: float_of(r[39]),
-        tune_cents: float_of(r[40]),
+        pitch_keycenter: byte_at(r, 5),
+        pitch_keytrack: float_at(r, 39),
+        tune_cents: float_at(r, 40),
         transpose: signed_of(r[6]),
-        bend_up_cents: float_of(r[41]),
-        bend_down_cents: float_of(r[42]),
+        bend_up_cents: float_at(r, 41),
+        bend_down_cents: float_at(r, 42),
     }
 }
 
@@ -489,7 +505,7 @@ fn playback_of(r: &[u32]) -> Playback
         loop_mode: loop_mode_of(r[10]),
         loop_source: loop_source_of(r[11]),
         loop_points: loop_points_of(r[12], r[13], r[14]),
-        delay_s: float_of(r[49]),
+        delay_s: float_at(r, 49),
     }
 }
 
@@ -498,14 +514,14 @@ fn level_of(r: &[u32]) -> Level
     ensures { λ x. ⌜ x ≡ levelOf (now (r .entry)) ⌝ }
 {
     Level {
-        volume_db: float_of(r[52]),
-        amp_random_db: float_of(r[53]),
-        pan: float_of(r[54]),
-        width: float_of(r[55]),
-        amp_veltrack: float_of(r[56]),
+        volume_db: float_at(r, 52),
+        amp_random_db: float_at(r, 53),
+        pan: float_at(r, 54),
+        width: float_at(r, 55),
+        amp_veltrack: float_at(r, 56),
         velcurve_count: r[29],
         xf_vel: crossfade_of(r),
-        rt_decay_db_per_s: float_of(r[57]),
+        rt_decay_db_per_s: float_at(r, 57),
     }
 }
 
@@ -528,7 +544,7 @@ fn choke_of(r: &[u32]) -> Choke
         group: signed_of(r[18]),
         off_by: off_by_of(r[19], r[20]),
         off_mode: off_mode_of(r[21]),
-        off_time: float_of(r[48]),
+        off_time: float_at(r, 48),
         note_polyphony: maybe_of(r[23], r[24]),
         polyphony: maybe_of(r[25], r[26]),
     }

@@ -1,17 +1,16 @@
 use Rattle.session.specs.Lists.{pick}
 use Rattle.session.specs.Records.{marked}
 use Rattle.session.specs.Rules.{chokeOne}
-use borrow.Author.Needs.{needs}
 use mathlib.Core.Bool.{Bool}
 use mathlib.Core.Path.{_∙_, ap, sym}
 use Rattle.session.proofs.choke_one.Statement.{statement}
 use Rattle.session.proofs.choke_one.Tie as tie
 
 choked-by-requires : tie.Need-choked-by-requires
-choked-by-requires c κs = search needs
+choked-by-requires c κs = tt
 
 mark-requires : tie.Need-mark-requires
-mark-requires c κs = search needs
+mark-requires c κs = tt
 
 returns : tie.Need-returns
 unfolding chokeOne

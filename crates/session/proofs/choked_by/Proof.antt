@@ -15,14 +15,14 @@ unfolding chokedBy
 returns-2 c = simp (c .before .before .if1 .left, not-true (c .before .before .before .args .r .«on_note») (c .if2 .taken))
 
 off-by-is-requires : tie.Need-off-by-is-requires
-off-by-is-requires c κs = search needs
+off-by-is-requires c κs = tt
 
 returns-3 : tie.Need-returns-3
 unfolding chokedBy
 returns-3 c = let told = c .before .before .struct-told in let a = c .before .before .before .before .before .before .args in simp (c .before .before .before .before .before .if1 .left, not-false (a .r .«on_note») (c .before .before .before .if2 .left), sym (c .before .off-by-is .ensures ∙ offByIs-bits (a .r .«off_by») (a .st .group) (search needs)) ∙ not-true _ (c .if3 .taken))
 
 shares-both-requires : tie.Need-shares-both-requires
-shares-both-requires c κs = search needs
+shares-both-requires c κs = tt
 
 returns-4 : tie.Need-returns-4
 unfolding chokedBy

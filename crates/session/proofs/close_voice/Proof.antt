@@ -1,15 +1,14 @@
 use Rattle.session.proofs.Voices.{ended-voices}
 use Rattle.session.specs.State.{closedVoice, endedVoice, freed, withVoices}
-use borrow.Author.Needs.{needs}
 use mathlib.Core.Path.{_∙_, ap}
 use Rattle.session.proofs.close_voice.Statement.{statement}
 use Rattle.session.proofs.close_voice.Tie as tie
 
 end-voice-requires : tie.Need-end-voice-requires
-end-voice-requires c κs = search needs
+end-voice-requires c κs = tt
 
 free-voice-requires : tie.Need-free-voice-requires
-free-voice-requires c κs = search needs
+free-voice-requires c κs = tt
 
 returns : tie.Need-returns
 unfolding closedVoice

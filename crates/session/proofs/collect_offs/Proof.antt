@@ -4,7 +4,6 @@ use Rattle.session.proofs.Walks.{doneTo, long, untouched, used-below, w
 use Rattle.session.specs.Lists.{changeIf}
 use Rattle.session.specs.Offs.{offOf, offTimes, offsOf}
 use Rattle.session.specs.Records.{collected, waits}
-use borrow.Author.Needs.{needs}
 use lib.ListN.{length, take}
 use mathlib.Core.Logic.{⊎-elim}
 use mathlib.Core.Path.{_∙_, _≡_, ap, refl}
@@ -19,10 +18,10 @@ abbrev μ-loop : tie.MeasureT-loop
 μ-loop voice n t₀ offs₀ i₀ t offs i = n - i
 
 used-requires : tie.Need-used-requires Inv-loop μ-loop
-used-requires c κs = search needs
+used-requires c κs = tt
 
 no-offs-requires : tie.Need-no-offs-requires Inv-loop μ-loop
-no-offs-requires c κs = search needs
+no-offs-requires c κs = tt
 
 loop-holds : tie.Need-loop-holds Inv-loop μ-loop
 loop-holds c = (omega arith, rw (c .before .used .ensures) (used-below 512 (c .before .before .args .s .count)), (long _ (c .before .before .args .s .players) 512 (c .before .before .good .0 .1 .1 .0 .1 .0 .1)), refl, c .no-offs .ensures)
@@ -34,10 +33,10 @@ element-copy-out-r : tie.Need-element-copy-out-r Inv-loop μ-loop
 element-copy-out-r c = omega arith
 
 is-waiting-requires : tie.Need-is-waiting-requires Inv-loop μ-loop
-is-waiting-requires c κs = search needs
+is-waiting-requires c κs = tt
 
 clear-off-requires : tie.Need-clear-off-requires Inv-loop μ-loop
-clear-off-requires c κs = search needs
+clear-off-requires c κs = tt
 
 mul-t15 : tie.Need-mul-t15 Inv-loop μ-loop
 mul-t15 c = record { fits = omega arith }
@@ -46,10 +45,10 @@ element-set-from-t : tie.Need-element-set-from-t Inv-loop μ-loop
 element-set-from-t c = omega arith
 
 off-of-requires : tie.Need-off-of-requires Inv-loop μ-loop
-off-of-requires c κs = search needs
+off-of-requires c κs = tt
 
 add-off-requires : tie.Need-add-off-requires Inv-loop μ-loop
-add-off-requires c κs = search needs
+add-off-requires c κs = tt
 
 add-i : tie.Need-add-i Inv-loop μ-loop
 add-i c = record { fits = omega arith }

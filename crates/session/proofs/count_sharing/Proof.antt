@@ -2,7 +2,6 @@ use Prim.Native.Nat.{_-_, _≤_}
 use Rattle.session.proofs.Walks.{count-done, count-hit, count-miss, long, used-below}
 use Rattle.session.specs.Lists.{keep}
 use Rattle.session.specs.Rules.{sharing}
-use borrow.Author.Needs.{needs}
 use lib.ListN.{length, take}
 use mathlib.Core.Path.{_≡_, refl}
 use native.Mathlib.Omega.{arith}
@@ -16,7 +15,7 @@ abbrev μ-loop : tie.MeasureT-loop
 μ-loop st by s n i₀ k₀ i k = n - i
 
 used-requires : tie.Need-used-requires Inv-loop μ-loop
-used-requires c κs = search needs
+used-requires c κs = tt
 
 loop-holds : tie.Need-loop-holds Inv-loop μ-loop
 loop-holds c = (omega arith, omega arith, rw (c .used .ensures) (used-below 512 (c .before .args .t1 .count)), (long _ (c .before .args .t1 .players) 512 (c .before .good .0 .1 .1 .0 .1 .0 .1)), refl)
@@ -31,7 +30,7 @@ add-i : tie.Need-add-i Inv-loop μ-loop
 add-i c = record { fits = omega arith }
 
 shares-requires : tie.Need-shares-requires Inv-loop μ-loop
-shares-requires c κs = search needs
+shares-requires c κs = tt
 
 add-k : tie.Need-add-k Inv-loop μ-loop
 add-k c = record { fits = omega arith }

@@ -2,7 +2,6 @@ use Prim.Native.Nat.{_-_, _≤_}
 use Rattle.session.proofs.Walks.{count-done, count-hit, count-miss, long, used-below}
 use Rattle.session.specs.Lists.{keep}
 use Rattle.session.specs.Records.{ofVoice}
-use borrow.Author.Needs.{needs}
 use borrow.Author.Tests.{eq-eqb, ne-eqb}
 use lib.ListN.{length, take}
 use mathlib.Core.Bool.{false, true}
@@ -18,7 +17,7 @@ abbrev μ-loop : tie.MeasureT-loop
 μ-loop voice s n i₀ k₀ i k = n - i
 
 used-requires : tie.Need-used-requires Inv-loop μ-loop
-used-requires c κs = search needs
+used-requires c κs = tt
 
 loop-holds : tie.Need-loop-holds Inv-loop μ-loop
 loop-holds c = (omega arith, omega arith, rw (c .used .ensures) (used-below 512 (c .before .args .t1 .count)), (long _ (c .before .args .t1 .players) 512 (c .before .good .0 .1 .1 .0 .1 .0 .1)), refl)

@@ -6,7 +6,7 @@ use Rattle.session.proofs.end_oldest.Statement.{statement}
 use Rattle.session.proofs.end_oldest.Tie as tie
 
 first-to-go-requires : tie.Need-first-to-go-requires
-first-to-go-requires c κs = search needs
+first-to-go-requires c κs = tt
 
 enum-told : tie.Need-enum-told
 enum-told c = search needs
@@ -15,7 +15,7 @@ enum-known-v : tie.Need-enum-known-v
 enum-known-v c = search needs
 
 off-with-sisters-requires : tie.Need-off-with-sisters-requires
-off-with-sisters-requires c κs = search needs
+off-with-sisters-requires c κs = tt
 
 returns : tie.Need-returns
 returns c = let e = c .before .before .before in oldest-none (e .args .st) (e .args .s) (long _ (e .args .s .players) 512 (e .good .0 .1 .1 .0 .1 .0 .1)) (e .pre) (sym (c .before .before .first-to-go .ensures) ∙ c .enum-told .given .1)

@@ -1,14 +1,13 @@
 use Rattle.session.specs.State.{endedVoice, heldDown}
-use borrow.Author.Needs.{needs}
 use mathlib.Core.Path.{_∙_, ap}
 use Rattle.session.proofs.end_voice.Statement.{statement}
 use Rattle.session.proofs.end_voice.Tie as tie
 
 remove-voice-requires : tie.Need-remove-voice-requires
-remove-voice-requires c κs = search needs
+remove-voice-requires c κs = tt
 
 lower-held-requires : tie.Need-lower-held-requires
-lower-held-requires c κs = search needs
+lower-held-requires c κs = tt
 
 returns : tie.Need-returns
 unfolding endedVoice

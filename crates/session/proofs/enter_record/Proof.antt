@@ -6,10 +6,10 @@ use Rattle.session.proofs.enter_record.Statement.{statement}
 use Rattle.session.proofs.enter_record.Tie as tie
 
 used-requires : tie.Need-used-requires
-used-requires c κs = search needs
+used-requires c κs = tt
 
 entry-requires : tie.Need-entry-requires
-entry-requires c κs = search needs
+entry-requires c κs = tt
 
 returns : tie.Need-returns
 returns c = let e = c .before .before .before in enter-full (e .args .s) (long _ (e .args .s .players) 512 (e .good .0 .1 .1 .0 .1 .0 .1)) (entered (e .args .st) (e .args .slot)) _ (c .before .before .used .ensures) (c .if1 .taken)

@@ -1,7 +1,6 @@
 use Prim.Native.Nat.{_-_, _≤_}
 use Rattle.session.proofs.Walks.{fold-done, fold-step, long, used-below}
 use Rattle.session.specs.Rules.{goingFirst, lookAt, yielding}
-use borrow.Author.Needs.{needs}
 use lib.ListN.{length, take}
 use mathlib.Core.List.{foldl}
 use mathlib.Core.Path.{_≡_, refl}
@@ -17,7 +16,7 @@ abbrev μ-loop : tie.MeasureT-loop
 μ-loop st by s n best₀ i₀ best i = n - i
 
 used-requires : tie.Need-used-requires Inv-loop μ-loop
-used-requires c κs = search needs
+used-requires c κs = tt
 
 loop-holds : tie.Need-loop-holds Inv-loop μ-loop
 loop-holds c = (omega arith, rw (c .used .ensures) (used-below 512 (c .before .args .t1 .count)), (long _ (c .before .args .t1 .players) 512 (c .before .good .0 .1 .1 .0 .1 .0 .1)), refl)
@@ -29,7 +28,7 @@ element-copy-out-r : tie.Need-element-copy-out-r Inv-loop μ-loop
 element-copy-out-r c = omega arith
 
 look-at-requires : tie.Need-look-at-requires Inv-loop μ-loop
-look-at-requires c κs = search needs
+look-at-requires c κs = tt
 
 add-i : tie.Need-add-i Inv-loop μ-loop
 add-i c = record { fits = omega arith }

@@ -3,7 +3,6 @@ use Rattle.session.proofs.OffTimes.{FoundAt, found-here, found-later, f
 use Rattle.session.proofs.Walks.{long, used-below}
 use Rattle.session.specs.Offs.{firstAt}
 use Rattle.session.specs.Records.{waits}
-use borrow.Author.Needs.{needs}
 use lib.ListN.{take}
 use mathlib.Core.Path.{_∙_, ap, sym}
 use native.Mathlib.Omega.{arith}
@@ -17,7 +16,7 @@ abbrev μ-loop : tie.MeasureT-loop
 μ-loop voice s n i₀ i = n - i
 
 used-requires : tie.Need-used-requires Inv-loop μ-loop
-used-requires c κs = search needs
+used-requires c κs = tt
 
 loop-holds : tie.Need-loop-holds Inv-loop μ-loop
 loop-holds c = let h : c .used .result ≤ 512 = rw (c .used .ensures) (used-below 512 (c .before .args .t1 .count)) in let l = (long _ (c .before .args .t1 .players) 512 (c .before .good .0 .1 .1 .0 .1 .0 .1)) in (h, record { fits = omega arith; within = omega arith; left = omega arith })
@@ -29,7 +28,7 @@ element-copy-out-r : tie.Need-element-copy-out-r Inv-loop μ-loop
 element-copy-out-r c = omega arith
 
 is-waiting-requires : tie.Need-is-waiting-requires Inv-loop μ-loop
-is-waiting-requires c κs = search needs
+is-waiting-requires c κs = tt
 
 returns : tie.Need-returns Inv-loop μ-loop
 returns c = let b = c .before .before .before .before in let a = b .before .before .args in found-here _ _ _ _ (b .loop .inv .1) _ (c .before .before .before .loop-test .taken) (sym (c .before .is-waiting .ensures) ∙ c .if1 .taken) ∙ ap (λ m. firstAt (waits (a .voice)) (take m (a .t1 .players))) (b .before .used .ensures)

@@ -2,7 +2,6 @@ use Prim.Native.Nat.{_-_, _≤_}
 use Rattle.session.proofs.Packing.{Packed, packed-keep, packed-none, packed-skip}
 use Rattle.session.proofs.Voices.{OnlyIds, freed-done, ids-set, others}
 use Rattle.session.proofs.Walks.{long, used-below}
-use borrow.Author.Needs.{needs}
 use borrow.Author.Tests.{eq-eqb, ne-eqb}
 use lib.ListN.{length}
 use mathlib.Core.Bool.{not}
@@ -18,7 +17,7 @@ abbrev μ-loop : tie.MeasureT-loop
 μ-loop id w₀ n i₀ j₀ w i j = n - i
 
 used-places-requires : tie.Need-used-places-requires Inv-loop μ-loop
-used-places-requires c κs = search needs
+used-places-requires c κs = tt
 
 loop-holds : tie.Need-loop-holds Inv-loop μ-loop
 loop-holds c = (omega arith, rw (c .used-places .ensures) (used-below 16 (c .before .args .v .count)), (long _ (c .before .args .v .ids) 16 (c .before .good .0 .1 .1 .0 .1 .0 .1)), packed-none _ (c .before .args .v .ids), refl)

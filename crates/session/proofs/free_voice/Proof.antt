@@ -1,11 +1,10 @@
 use Rattle.session.specs.State.{withVoices}
-use borrow.Author.Needs.{needs}
 use mathlib.Core.Path.{ap}
 use Rattle.session.proofs.free_voice.Statement.{statement}
 use Rattle.session.proofs.free_voice.Tie as tie
 
 free-requires : tie.Need-free-requires
-free-requires c κs = search needs
+free-requires c κs = tt
 
 returns : tie.Need-returns
 returns c = ap (λ v. withVoices v (c .before .before .args .s)) (c .free .ensures)

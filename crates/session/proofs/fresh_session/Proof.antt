@@ -1,10 +1,9 @@
 use Rattle.session.proofs.Voices.{fresh-of}
-use borrow.Author.Needs.{needs}
 use Rattle.session.proofs.fresh_session.Statement.{statement}
 use Rattle.session.proofs.fresh_session.Tie as tie
 
 no-record-requires : tie.Need-no-record-requires
-no-record-requires c κs = search needs
+no-record-requires c κs = tt
 
 returns : tie.Need-returns
 returns c = fresh-of (c .no-record .result) (c .no-record .ensures)

@@ -2,7 +2,6 @@ use Prim.Native.Nat.{_-_, _≤_}
 use Rattle.session.proofs.Search.{Searched, search-found, search-next, search-over}
 use Rattle.session.proofs.Walks.{long, used-below}
 use Rattle.session.specs.Lists.{elem}
-use borrow.Author.Needs.{needs}
 use borrow.Author.Tests.{eq-eqb, ne-eqb}
 use lib.Dec.{eqb}
 use lib.ListN.{take}
@@ -18,7 +17,7 @@ abbrev μ-loop : tie.MeasureT-loop
 μ-loop slot ks n i₀ i = n - i
 
 used-slots-requires : tie.Need-used-slots-requires Inv-loop μ-loop
-used-slots-requires c κs = search needs
+used-slots-requires c κs = tt
 
 loop-holds : tie.Need-loop-holds Inv-loop μ-loop
 loop-holds c = let h : c .used-slots .result ≤ 32 = rw (c .used-slots .ensures) (used-below 32 (c .before .args .t1 .count)) in let l = (long _ (c .before .args .t1 .slots) 32 (c .before .good .0 .1 .1 .0 .1 .0 .1)) in (h, record { fits = omega arith; left = refl })

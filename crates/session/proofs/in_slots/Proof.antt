@@ -1,7 +1,6 @@
 use Rattle.session.specs.Lists.{elem}
 use Rattle.session.specs.Records.{inSlots}
 use Rattle.session.specs.State.{slotList}
-use borrow.Author.Needs.{needs}
 use borrow.Author.Tests.{eq-eqb, ne-eqb}
 use mathlib.Core.Bool.{_&&_}
 use mathlib.Core.Path.{_∙_, ap, sym}
@@ -13,7 +12,7 @@ unfolding inSlots
 returns c = simp (ne-eqb (c .before .before .args .r .voice) (c .before .before .args .voice) (c .if1 .taken))
 
 has-slot-requires : tie.Need-has-slot-requires
-has-slot-requires c κs = search needs
+has-slot-requires c κs = tt
 
 returns-2 : tie.Need-returns-2
 unfolding inSlots

@@ -1,6 +1,5 @@
 use Rattle.session.proofs.Packing.{gone-all, gone-slots}
 use Rattle.session.specs.Removal.{stays}
-use borrow.Author.Needs.{needs}
 use Rattle.session.proofs.is_gone.Statement.{statement}
 use Rattle.session.proofs.is_gone.Tie as tie
 
@@ -9,7 +8,7 @@ unfolding stays
 returns c = let a = c .before .before .before .before .args in gone-all (a .r) (a .g) (c .before .before .if1 .taken)
 
 in-slots-requires : tie.Need-in-slots-requires
-in-slots-requires c κs = search needs
+in-slots-requires c κs = tt
 
 returns-2 : tie.Need-returns-2
 unfolding stays

@@ -1,10 +1,9 @@
 use Rattle.session.specs.Tests.{isLive}
-use borrow.Author.Needs.{needs}
 use Rattle.session.proofs.is_live.Statement.{statement}
 use Rattle.session.proofs.is_live.Tie as tie
 
 stands-from-requires : tie.Need-stands-from-requires
-stands-from-requires c κs = search needs
+stands-from-requires c κs = tt
 
 returns : tie.Need-returns
 unfolding isLive

@@ -1,6 +1,5 @@
 use Rattle.session.proofs.Asked.{quieter-even, quieter-not}
 use Rattle.session.specs.Records.{quieter}
-use borrow.Author.Needs.{needs}
 use borrow.Author.Tests.{lt-ltb}
 use mathlib.Core.Path.{_∙_}
 use Rattle.session.proofs.is_quieter.Statement.{statement}
@@ -14,7 +13,7 @@ returns-2 : tie.Need-returns-2
 returns-2 c = quieter-not (c .before .before .before .before .before .before .args .a) (c .before .before .before .before .before .before .args .b) (c .if2 .taken)
 
 is-older-requires : tie.Need-is-older-requires
-is-older-requires c κs = search needs
+is-older-requires c κs = tt
 
 returns-3 : tie.Need-returns-3
 returns-3 c = let a = c .before .before .before .before .before .before .before .args in c .is-older .ensures ∙ quieter-even (a .a) (a .b) (c .before .before .before .before .if1 .left) (c .before .if2 .left)

@@ -11,10 +11,10 @@ enum-known-limit : tie.Need-enum-known-limit
 enum-known-limit c = search needs
 
 count-sharing-requires : tie.Need-count-sharing-requires
-count-sharing-requires c κs = search needs
+count-sharing-requires c κs = tt
 
 surplus-requires : tie.Need-surplus-requires
-surplus-requires c κs = search needs
+surplus-requires c κs = tt
 
 yield-up-requires : tie.Need-yield-up-requires
 yield-up-requires c κs = search needs

@@ -14,7 +14,7 @@ cast-most : tie.Need-cast-most
 cast-most c = search needs
 
 count-sharing-requires : tie.Need-count-sharing-requires
-count-sharing-requires c κs = search needs
+count-sharing-requires c κs = tt
 
 returns : tie.Need-returns
 returns c = let e = c .before .before .before .before .before in region-few (e .args .st) (e .args .s) (long _ (e .args .s .players) 512 (e .good .0 .1 .1 .0 .1 .0 .1)) (e .pre) _ _ (c .before .before .before .limit .given .1) (c .before .count-sharing .ensures) (c .if1 .taken)

@@ -1,14 +1,13 @@
 use Rattle.session.specs.Rules.{lookAt}
-use borrow.Author.Needs.{needs}
 use mathlib.Core.Path.{_∙_, refl, sym}
 use Rattle.session.proofs.look_at.Statement.{statement}
 use Rattle.session.proofs.look_at.Tie as tie
 
 yields-requires : tie.Need-yields-requires
-yields-requires c κs = search needs
+yields-requires c κs = tt
 
 lower-of-requires : tie.Need-lower-of-requires
-lower-of-requires c κs = search needs
+lower-of-requires c κs = tt
 
 returns : tie.Need-returns
 unfolding lookAt

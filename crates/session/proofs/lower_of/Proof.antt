@@ -11,7 +11,7 @@ enum-known-best : tie.Need-enum-known-best
 enum-known-best c = search needs
 
 goes-first-requires : tie.Need-goes-first-requires
-goes-first-requires c κs = search needs
+goes-first-requires c κs = tt
 
 returns : tie.Need-returns
 unfolding lowerOf

@@ -4,7 +4,6 @@ use Rattle.session.specs.Lists.{changeIf}
 use Rattle.session.specs.Records.{ended, inSlots}
 use Rattle.session.specs.Rules.{markEnded}
 use Rattle.session.specs.State.{slotList}
-use borrow.Author.Needs.{needs}
 use mathlib.Core.Logic.{⊎-elim}
 use mathlib.Core.Path.{_∙_, _≡_, refl}
 use native.Mathlib.Omega.{arith}
@@ -18,7 +17,7 @@ abbrev μ-loop : tie.MeasureT-loop
 μ-loop voice ks n t₀ i₀ t i = n - i
 
 used-requires : tie.Need-used-requires Inv-loop μ-loop
-used-requires c κs = search needs
+used-requires c κs = tt
 
 loop-holds : tie.Need-loop-holds Inv-loop μ-loop
 loop-holds c = (omega arith, rw (c .used .ensures) (used-below 512 (c .before .args .s .count)), refl)
@@ -30,10 +29,10 @@ element-copy-out-r : tie.Need-element-copy-out-r Inv-loop μ-loop
 element-copy-out-r c = omega arith
 
 in-slots-requires : tie.Need-in-slots-requires Inv-loop μ-loop
-in-slots-requires c κs = search needs
+in-slots-requires c κs = tt
 
 end-record-requires : tie.Need-end-record-requires Inv-loop μ-loop
-end-record-requires c κs = search needs
+end-record-requires c κs = tt
 
 mul-t15 : tie.Need-mul-t15 Inv-loop μ-loop
 mul-t15 c = record { fits = omega arith }

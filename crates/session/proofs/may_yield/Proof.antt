@@ -1,12 +1,11 @@
 use Rattle.session.specs.Records.{mayYield}
-use borrow.Author.Needs.{needs}
 use borrow.Author.Tests.{not-false, not-true}
 use mathlib.Core.Path.{_∙_, sym}
 use Rattle.session.proofs.may_yield.Statement.{statement}
 use Rattle.session.proofs.may_yield.Tie as tie
 
 shares-note-requires : tie.Need-shares-note-requires
-shares-note-requires c κs = search needs
+shares-note-requires c κs = tt
 
 returns : tie.Need-returns
 unfolding mayYield

@@ -1,12 +1,11 @@
 use Rattle.session.proofs.Voices.{open-new, open-not}
-use borrow.Author.Needs.{needs}
 use borrow.Author.Tests.{not-false, not-true}
 use mathlib.Core.Path.{_∙_, sym}
 use Rattle.session.proofs.new_voice.Statement.{statement}
 use Rattle.session.proofs.new_voice.Tie as tie
 
 has-place-requires : tie.Need-has-place-requires
-has-place-requires c κs = search needs
+has-place-requires c κs = tt
 
 returns : tie.Need-returns
 returns c = open-not (c .before .before .before .args .s) _ (c .before .has-place .ensures) (not-true _ (c .if1 .taken))

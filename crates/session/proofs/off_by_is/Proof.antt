@@ -11,7 +11,7 @@ enum-known-o : tie.Need-enum-known-o
 enum-known-o c = search needs
 
 same-group-requires : tie.Need-same-group-requires
-same-group-requires c κs = search needs
+same-group-requires c κs = tt
 
 returns : tie.Need-returns
 returns c = search needs

@@ -3,7 +3,6 @@ use Rattle.session.proofs.Walks.{doneTo, long, used-below, walk-done, w
 use Rattle.session.specs.Lists.{changeIf}
 use Rattle.session.specs.Records.{isSister, marked}
 use Rattle.session.specs.Rules.{markSisters}
-use borrow.Author.Needs.{needs}
 use mathlib.Core.Logic.{⊎-elim}
 use mathlib.Core.Path.{_∙_, _≡_, refl}
 use native.Mathlib.Omega.{arith}
@@ -17,7 +16,7 @@ abbrev μ-loop : tie.MeasureT-loop
 μ-loop voice start at n t₀ i₀ t i = n - i
 
 used-requires : tie.Need-used-requires Inv-loop μ-loop
-used-requires c κs = search needs
+used-requires c κs = tt
 
 loop-holds : tie.Need-loop-holds Inv-loop μ-loop
 loop-holds c = (omega arith, rw (c .used .ensures) (used-below 512 (c .before .args .s .count)), refl)
@@ -29,10 +28,10 @@ element-copy-out-r : tie.Need-element-copy-out-r Inv-loop μ-loop
 element-copy-out-r c = omega arith
 
 is-sister-requires : tie.Need-is-sister-requires Inv-loop μ-loop
-is-sister-requires c κs = search needs
+is-sister-requires c κs = tt
 
 mark-requires : tie.Need-mark-requires Inv-loop μ-loop
-mark-requires c κs = search needs
+mark-requires c κs = tt
 
 mul-t16 : tie.Need-mul-t16 Inv-loop μ-loop
 mul-t16 c = record { fits = omega arith }

@@ -7,7 +7,6 @@ use Rattle.session.specs.Records.{ofVoice}
 use Rattle.session.specs.Rules.{countOf}
 use Rattle.session.specs.State.{view}
 use Rattle.session.specs.Tests.{overVoice}
-use borrow.Author.Needs.{needs}
 use borrow.Author.Tests.{le-ltb, lt-ltb}
 use lib.Dec.{ltb}
 use lib.ListN.{take}
@@ -26,7 +25,7 @@ returns : tie.Need-returns Inv-loop μ-loop
 returns c = over-few (c .before .before .args .s) (c .if1 .taken)
 
 used-places-requires : tie.Need-used-places-requires Inv-loop μ-loop
-used-places-requires c κs = search needs
+used-places-requires c κs = tt
 
 loop-holds : tie.Need-loop-holds Inv-loop μ-loop
 loop-holds c = let h : c .used-places .result ≤ 16 = rw (c .used-places .ensures) (used-below 16 (c .before .before .before .before .args .s .voices .count)) in let l = (long _ (c .before .before .before .before .args .s .voices .ids) 16 (c .before .before .before .before .good .0 .1 .1 .1 .1 .1 .0 .1 .1 .0 .1 .0 .1)) in (h, record { fits = omega arith; left = refl })
@@ -38,7 +37,7 @@ element-copy-out-id : tie.Need-element-copy-out-id Inv-loop μ-loop
 element-copy-out-id c = omega arith
 
 count-voice-requires : tie.Need-count-voice-requires Inv-loop μ-loop
-count-voice-requires c κs = search needs
+count-voice-requires c κs = tt
 
 returns-2 : tie.Need-returns-2 Inv-loop μ-loop
 unfolding overVoice

@@ -3,7 +3,6 @@ use Rattle.session.proofs.Search.{Searched, search-found, search-next, 
 use Rattle.session.proofs.Walks.{long, used-below}
 use Rattle.session.specs.Lists.{any}
 use Rattle.session.specs.Tests.{regionOutside}
-use borrow.Author.Needs.{needs}
 use borrow.Author.Tests.{le-leb, lt-leb}
 use lib.Dec.{leb}
 use lib.ListN.{take}
@@ -19,7 +18,7 @@ abbrev μ-loop : tie.MeasureT-loop
 μ-loop regions s n i₀ i = n - i
 
 used-requires : tie.Need-used-requires Inv-loop μ-loop
-used-requires c κs = search needs
+used-requires c κs = tt
 
 loop-holds : tie.Need-loop-holds Inv-loop μ-loop
 loop-holds c = let h : c .used .result ≤ 512 = rw (c .used .ensures) (used-below 512 (c .before .args .t1 .count)) in let l = (long _ (c .before .args .t1 .players) 512 (c .before .good .0 .1 .1 .0 .1 .0 .1)) in (h, record { fits = omega arith; left = refl })

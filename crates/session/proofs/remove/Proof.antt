@@ -2,7 +2,6 @@ use Prim.Native.Nat.{_-_, _≤_}
 use Rattle.session.proofs.Packing.{Only, Packed, is-out, not-gone, only-set, packed-keep, packed-none, packed-skip, removal-done}
 use Rattle.session.proofs.Walks.{long, used-below}
 use Rattle.session.specs.Removal.{stays}
-use borrow.Author.Needs.{needs}
 use lib.ListN.{length}
 use mathlib.Core.Path.{_≡_, refl}
 use native.Mathlib.Omega.{arith}
@@ -16,7 +15,7 @@ abbrev μ-loop : tie.MeasureT-loop
 μ-loop g t₀ n i₀ j₀ t i j = n - i
 
 used-requires : tie.Need-used-requires Inv-loop μ-loop
-used-requires c κs = search needs
+used-requires c κs = tt
 
 loop-holds : tie.Need-loop-holds Inv-loop μ-loop
 loop-holds c = (omega arith, rw (c .used .ensures) (used-below 512 (c .before .args .s .count)), (long _ (c .before .args .s .players) 512 (c .before .good .0 .1 .1 .0 .1 .0 .1)), packed-none _ (c .before .args .s .players), refl)
@@ -31,7 +30,7 @@ add-i : tie.Need-add-i Inv-loop μ-loop
 add-i c = record { fits = omega arith }
 
 is-gone-requires : tie.Need-is-gone-requires Inv-loop μ-loop
-is-gone-requires c κs = search needs
+is-gone-requires c κs = tt
 
 mul-r-2 : tie.Need-mul-r-2 Inv-loop μ-loop
 mul-r-2 c = let b = c .before .before .before .before in record { fits = omega (arith, b .loop .inv .3 .behind) }

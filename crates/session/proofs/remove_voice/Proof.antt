@@ -1,11 +1,10 @@
 use Rattle.session.specs.Removal.{stays}
 use Rattle.session.specs.Rules.{withoutVoice}
-use borrow.Author.Needs.{needs}
 use Rattle.session.proofs.remove_voice.Statement.{statement}
 use Rattle.session.proofs.remove_voice.Tie as tie
 
 remove-requires : tie.Need-remove-requires
-remove-requires c κs = search needs
+remove-requires c κs = tt
 
 returns : tie.Need-returns
 unfolding withoutVoice stays

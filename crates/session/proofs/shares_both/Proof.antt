@@ -7,7 +7,7 @@ use Rattle.session.proofs.shares_both.Statement.{statement}
 use Rattle.session.proofs.shares_both.Tie as tie
 
 same-group-requires : tie.Need-same-group-requires
-same-group-requires c κs = search needs
+same-group-requires c κs = tt
 
 returns : tie.Need-returns
 unfolding sharesBoth

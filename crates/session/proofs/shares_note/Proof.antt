@@ -1,5 +1,4 @@
 use Rattle.session.specs.Records.{sharesNote}
-use borrow.Author.Needs.{needs}
 use Rattle.session.proofs.shares_note.Statement.{statement}
 use Rattle.session.proofs.shares_note.Tie as tie
 
@@ -8,7 +7,7 @@ unfolding sharesNote
 returns c = simp (c .if1 .taken)
 
 shares-both-requires : tie.Need-shares-both-requires
-shares-both-requires c κs = search needs
+shares-both-requires c κs = tt
 
 returns-2 : tie.Need-returns-2
 unfolding sharesNote

@@ -4,7 +4,6 @@ use Rattle.session.proofs.Walks.{long, used-below}
 use Rattle.session.specs.Rules.{slotsOf}
 use Rattle.session.specs.State.{view}
 use Rattle.session.specs.Tests.{sameList, slotsInOrder}
-use borrow.Author.Needs.{needs}
 use lib.ListN.{take}
 use mathlib.Core.Path.{_∙_, ap, refl}
 use native.Mathlib.Omega.{arith}
@@ -18,10 +17,10 @@ abbrev μ-loop : tie.MeasureT-loop
 μ-loop voice s ks n m i₀ j₀ i j = n - i
 
 used-requires : tie.Need-used-requires Inv-loop μ-loop
-used-requires c κs = search needs
+used-requires c κs = tt
 
 used-slots-requires : tie.Need-used-slots-requires Inv-loop μ-loop
-used-slots-requires c κs = search needs
+used-slots-requires c κs = tt
 
 loop-holds : tie.Need-loop-holds Inv-loop μ-loop
 loop-holds c = let e = c .before .before in let n8 : c .before .used .result ≤ 512 = rw (c .before .used .ensures) (used-below 512 (e .args .t1 .count)) in let m8 : c .used-slots .result ≤ 32 = rw (c .used-slots .ensures) (used-below 32 (e .args .t3 .count)) in let r8 = (long _ (e .args .t1 .players) 512 (e .good .0 .1 .1 .0 .1 .0 .1)) in let s2 = (long _ (e .args .t3 .slots) 32 (e .good .1 .1 .0 .1 .1 .0 .1 .0 .1)) in (n8, m8, record { all-records = omega arith; all-slots = omega arith; at-record = omega arith; at-slot = omega arith; same = refl })

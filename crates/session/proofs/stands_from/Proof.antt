@@ -2,7 +2,6 @@ use Prim.Native.Nat.{_-_, _≤_}
 use Rattle.session.proofs.Search.{Searched, search-found, search-next, search-over}
 use Rattle.session.proofs.Walks.{long, used-below}
 use Rattle.session.specs.Lists.{elem}
-use borrow.Author.Needs.{needs}
 use borrow.Author.Tests.{eq-eqb, ne-eqb}
 use lib.Dec.{eqb}
 use lib.ListN.{drop, take}
@@ -18,7 +17,7 @@ abbrev μ-loop : tie.MeasureT-loop
 μ-loop from id v n i₀ i = n - i
 
 used-places-requires : tie.Need-used-places-requires Inv-loop μ-loop
-used-places-requires c κs = search needs
+used-places-requires c κs = tt
 
 loop-holds : tie.Need-loop-holds Inv-loop μ-loop
 loop-holds c = let h : c .used-places .result ≤ 16 = rw (c .used-places .ensures) (used-below 16 (c .before .args .t1 .count)) in let l = (long _ (c .before .args .t1 .ids) 16 (c .before .good .0 .1 .1 .0 .1 .0 .1)) in (h, record { fits = omega arith; left = refl })

@@ -2,7 +2,6 @@ use Prim.Native.Nat.{_+_, _-_, _≤_}
 use Rattle.session.proofs.Matching.{TwiceLeft, twice-found, twice-next, twice-over}
 use Rattle.session.proofs.Walks.{long, used-below}
 use Rattle.session.specs.Lists.{elem, twice}
-use borrow.Author.Needs.{needs}
 use lib.ListN.{drop, getD, take}
 use mathlib.Core.Path.{_∙_, ap, refl, sym}
 use native.Mathlib.Omega.{arith}
@@ -16,7 +15,7 @@ abbrev μ-loop : tie.MeasureT-loop
 μ-loop v n i₀ i = n - i
 
 used-places-requires : tie.Need-used-places-requires Inv-loop μ-loop
-used-places-requires c κs = search needs
+used-places-requires c κs = tt
 
 loop-holds : tie.Need-loop-holds Inv-loop μ-loop
 loop-holds c = let h : c .used-places .result ≤ 16 = rw (c .used-places .ensures) (used-below 16 (c .before .args .t1 .count)) in let l = (long _ (c .before .args .t1 .ids) 16 (c .before .good .0 .1 .1 .0 .1 .0 .1)) in (h, record { fits = omega arith; left = refl })
@@ -31,7 +30,7 @@ add-i : tie.Need-add-i Inv-loop μ-loop
 add-i c = record { fits = omega arith }
 
 stands-from-requires : tie.Need-stands-from-requires Inv-loop μ-loop
-stands-from-requires c κs = search needs
+stands-from-requires c κs = tt
 
 returns : tie.Need-returns Inv-loop μ-loop
 returns c = let b = c .before .before .before .before in let a = b .before .before .args in twice-found _ _ _ (b .loop .inv .1) 0 (c .before .before .before .loop-test .taken) _ (c .before .stands-from .ensures ∙ ap (λ m. elem (getD (a .t1 .ids) (b .loop .i) 0) (drop (b .loop .i + 1) (take m (a .t1 .ids)))) (sym (b .before .used-places .ensures))) (c .if1 .taken) ∙ ap (λ m. twice (take m (a .t1 .ids))) (b .before .used-places .ensures)

@@ -1,12 +1,11 @@
 use Rattle.session.proofs.Walks.{long}
 use Rattle.session.proofs.Yield.{few-left, length-choke, length-note, marks-in-turn}
 use Rattle.session.specs.Rules.{choke, notePolyphony}
-use borrow.Author.Needs.{needs}
 use Rattle.session.proofs.start_marks.Statement.{statement}
 use Rattle.session.proofs.start_marks.Tie as tie
 
 choke-all-requires : tie.Need-choke-all-requires
-choke-all-requires c κs = search needs
+choke-all-requires c κs = tt
 
 limit-note-requires : tie.Need-limit-note-requires
 limit-note-requires c κs = let e = c .before in few-left (e .args .s) _ (choke (e .args .st)) (length-choke (e .args .st)) (c .choke-all .ensures)

@@ -23,7 +23,7 @@ element-write-t : tie.Need-element-write-t
 element-write-t c = search needs
 
 seq-hit-requires : tie.Need-seq-hit-requires
-seq-hit-requires c κs = search needs
+seq-hit-requires c κs = tt
 
 element-write-t-2 : tie.Need-element-write-t-2
 element-write-t-2 c = search needs

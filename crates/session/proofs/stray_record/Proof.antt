@@ -4,7 +4,6 @@ use Rattle.session.proofs.Walks.{long, used-below}
 use Rattle.session.specs.Lists.{any, elem}
 use Rattle.session.specs.State.{liveIds}
 use Rattle.session.specs.Tests.{strayRecord}
-use borrow.Author.Needs.{needs}
 use lib.ListN.{take}
 use mathlib.Core.Bool.{not}
 use mathlib.Core.Path.{_∙_, ap, refl, sym}
@@ -19,7 +18,7 @@ abbrev μ-loop : tie.MeasureT-loop
 μ-loop s v n i₀ i = n - i
 
 used-requires : tie.Need-used-requires Inv-loop μ-loop
-used-requires c κs = search needs
+used-requires c κs = tt
 
 loop-holds : tie.Need-loop-holds Inv-loop μ-loop
 loop-holds c = let h : c .used .result ≤ 512 = rw (c .used .ensures) (used-below 512 (c .before .before .args .t1 .count)) in let l = (long _ (c .before .before .args .t1 .players) 512 (c .before .before .good .0 .1 .1 .0 .1 .0 .1)) in (h, record { fits = omega arith; left = refl })
@@ -31,7 +30,7 @@ element-copy-out-r : tie.Need-element-copy-out-r Inv-loop μ-loop
 element-copy-out-r c = omega arith
 
 stands-from-requires : tie.Need-stands-from-requires Inv-loop μ-loop
-stands-from-requires c κs = search needs
+stands-from-requires c κs = tt
 
 returns : tie.Need-returns Inv-loop μ-loop
 unfolding strayRecord

@@ -1,10 +1,9 @@
 use Rattle.session.specs.Tests.{twiceLive}
-use borrow.Author.Needs.{needs}
 use Rattle.session.proofs.twice_live.Statement.{statement}
 use Rattle.session.proofs.twice_live.Tie as tie
 
 stands-twice-requires : tie.Need-stands-twice-requires
-stands-twice-requires c κs = search needs
+stands-twice-requires c κs = tt
 
 returns : tie.Need-returns
 unfolding twiceLive

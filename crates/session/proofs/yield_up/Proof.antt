@@ -16,7 +16,7 @@ loop-holds : tie.Need-loop-holds Inv-loop μ-loop
 loop-holds c = yield-none (c .args .st) (c .args .s) (c .args .rounds) (long _ (c .args .s .players) 512 (c .good .0 .1 .1 .0 .1 .0 .1)) (c .pre)
 
 first-to-go-requires : tie.Need-first-to-go-requires Inv-loop μ-loop
-first-to-go-requires c κs = search needs
+first-to-go-requires c κs = tt
 
 enum-told : tie.Need-enum-told Inv-loop μ-loop
 enum-told c = search needs
@@ -28,7 +28,7 @@ enum-known-v : tie.Need-enum-known-v Inv-loop μ-loop
 enum-known-v c = search needs
 
 off-with-sisters-requires : tie.Need-off-with-sisters-requires Inv-loop μ-loop
-off-with-sisters-requires c κs = search needs
+off-with-sisters-requires c κs = tt
 
 sub-left : tie.Need-sub-left Inv-loop μ-loop
 sub-left c = omega arith

@@ -6,13 +6,13 @@ enum-told : tie.Need-enum-told
 enum-told c = search needs
 
 may-yield-requires : tie.Need-may-yield-requires
-may-yield-requires c κs = search needs
+may-yield-requires c κs = tt
 
 enum-told-2 : tie.Need-enum-told-2
 enum-told-2 c = search needs
 
 of-region-requires : tie.Need-of-region-requires
-of-region-requires c κs = search needs
+of-region-requires c κs = tt
 
 returns : tie.Need-returns
 returns c = rw (c .before .enum-told .given .1) (c .may-yield .ensures)

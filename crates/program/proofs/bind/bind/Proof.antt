@@ -5,12 +5,11 @@ use Prim.Native.Nat.{ℕ, _+_, _-_, _*_, _≤_, _<_}
 use native.Mathlib.Omega.{arith}
 use borrow.Author.Tests.{eq-eqb, ne-eqb, lt-leb, le-leb, lt-ltb, le-ltb, not-true, not-false}
 use mathlib.Core.Path.{_≡_, refl, sym, ap, _∙_}
-use borrow.Author.Needs.{needs}
 use Rattle.program.proofs.bind.bind.Statement.{statement}
 use Rattle.program.proofs.bind.bind.Tie as tie
 
 all-counts-ok-requires : tie.Need-all-counts-ok-requires
-all-counts-ok-requires c κs = search needs
+all-counts-ok-requires c κs = tt
 
 returns : tie.Need-returns
 returns c = refused-1 (c .before .before .before .before .before .before .args .words .now) (c .before .before .before .before .before .before .args .samples .now) (c .before .before .before .before .before .before .args .frames .now) (c .before .before .before .before .before .before .args .table .now) (sym (c .before .all-counts-ok .ensures) ∙ not-true _ (c .if1 .taken))
@@ -28,13 +27,13 @@ returns-2 : tie.Need-returns-2
 returns-2 c = refused-2 (c .before .before .before .before .before .before .before .before .args .words .now) (c .before .before .before .before .before .before .before .before .args .samples .now) (c .before .before .before .before .before .before .before .before .args .frames .now) (c .before .before .before .before .before .before .before .before .args .table .now) (sym (c .before .before .before .all-counts-ok .ensures) ∙ not-false _ (c .before .before .if1 .left)) _ (c .before .first-bad-region .ensures) (c .if2 .taken)
 
 first-bad-sample-requires : tie.Need-first-bad-sample-requires
-first-bad-sample-requires c κs = search needs
+first-bad-sample-requires c κs = tt
 
 returns-3 : tie.Need-returns-3
 returns-3 c = refused-3 (c .before .before .before .before .before .before .before .before .before .before .args .words .now) (c .before .before .before .before .before .before .before .before .before .before .args .samples .now) (c .before .before .before .before .before .before .before .before .before .before .args .frames .now) (c .before .before .before .before .before .before .before .before .before .before .args .table .now) (sym (c .before .before .before .before .before .all-counts-ok .ensures) ∙ not-false _ (c .before .before .before .before .if1 .left)) _ (c .before .before .before .first-bad-region .ensures) (c .before .before .if2 .left) _ (c .before .first-bad-sample .ensures) (c .if3 .taken)
 
 table-ok-requires : tie.Need-table-ok-requires
-table-ok-requires c κs = search needs
+table-ok-requires c κs = tt
 
 returns-4 : tie.Need-returns-4
 returns-4 c = refused-4 (c .before .before .before .before .before .before .before .before .before .before .before .before .args .words .now) (c .before .before .before .before .before .before .before .before .before .before .before .before .args .samples .now) (c .before .before .before .before .before .before .before .before .before .before .before .before .args .frames .now) (c .before .before .before .before .before .before .before .before .before .before .before .before .args .table .now) (sym (c .before .before .before .before .before .before .before .all-counts-ok .ensures) ∙ not-false _ (c .before .before .before .before .before .before .if1 .left)) _ (c .before .before .before .before .before .first-bad-region .ensures) (c .before .before .before .before .if2 .left) _ (c .before .before .before .first-bad-sample .ensures) (c .before .before .if3 .left) (sym (c .before .table-ok .ensures) ∙ not-true _ (c .if4 .taken))

@@ -3,7 +3,6 @@ use Rattle.program.specs.Sample.{sampleTests, shapeTests}
 use Rattle.program.specs.Valid.{every}
 use Rattle.program.proofs.Binding.{bad-here, bad-later, bad-none}
 use native.Mathlib.Nat.{sub-zero}
-use borrow.Author.Needs.{needs}
 use Prim.Native.Nat.{ℕ, _+_, _-_, _*_, _≤_, _<_}
 use native.Mathlib.Omega.{arith}
 use borrow.Author.Tests.{eq-eqb, ne-eqb, lt-leb, le-leb, lt-ltb, le-ltb, not-true, not-false}

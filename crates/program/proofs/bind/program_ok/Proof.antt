@@ -34,7 +34,7 @@ unfolding programOk
 returns-4 c = every-no (programTests (c .before .before .before .before .before .before .before .before .before .args .b) (c .before .before .before .before .before .before .before .before .before .args .words .now) (c .before .before .before .before .before .before .before .before .before .args .samples .now) (c .before .before .before .before .before .before .before .before .before .args .frames) (c .before .before .before .before .before .before .before .before .before .args .table)) 3 (lt-leb _ _ (c .if4 .taken))
 
 all-counts-ok-requires : tie.Need-all-counts-ok-requires
-all-counts-ok-requires c κs = search needs
+all-counts-ok-requires c κs = tt
 
 returns-5 : tie.Need-returns-5
 unfolding programOk
@@ -48,7 +48,7 @@ unfolding programOk
 returns-6 c = every-no (programTests (c .before .before .before .before .before .before .before .before .before .before .before .before .before .args .b) (c .before .before .before .before .before .before .before .before .before .before .before .before .before .args .words .now) (c .before .before .before .before .before .before .before .before .before .before .before .before .before .args .samples .now) (c .before .before .before .before .before .before .before .before .before .before .before .before .before .args .frames) (c .before .before .before .before .before .before .before .before .before .before .before .before .before .args .table)) 5 (some-region (c .before .before .before .before .before .before .before .before .before .before .before .before .before .args .words .now) (c .before .before .before .before .before .before .before .before .before .before .before .before .before .args .samples .now) _ _ (c .before .before .before .before .before .before .before .if2 .left) (c .before .first-bad-region .ensures) (c .if6 .taken))
 
 first-bad-shape-requires : tie.Need-first-bad-shape-requires
-first-bad-shape-requires c κs = search needs
+first-bad-shape-requires c κs = tt
 
 returns-7 : tie.Need-returns-7
 unfolding programOk

@@ -7,7 +7,6 @@ use lib.Seq.{take-all}
 use native.Mathlib.Omega.{arith}
 use borrow.Author.Tests.{eq-eqb, ne-eqb, lt-leb, le-leb, lt-ltb, le-ltb, not-true, not-false}
 use mathlib.Core.Path.{_≡_, refl, sym, ap, _∙_}
-use borrow.Author.Needs.{needs}
 use Rattle.program.proofs.bind.table_ok.Statement.{statement}
 use Rattle.program.proofs.bind.table_ok.Tie as tie
 

@@ -3,7 +3,6 @@ use Rattle.program.specs.Valid.{allFinite, bandNumbers, bandsFinite}
 use Rattle.program.specs.Region.{floatOf, regionOf, bandOf}
 use Rattle.program.proofs.Checks.{fails, passes, ends, BandsFrom, bands-are, band-run}
 use lib.ListN.{getD}
-use borrow.Author.Needs.{needs}
 use native.Mathlib.Omega.{arith}
 use Prim.Native.Nat.{ℕ, _+_, _-_, _*_, _≤_, _<_}
 use borrow.Author.Tests.{eq-eqb, ne-eqb, lt-leb, le-leb, lt-ltb, le-ltb, not-true, not-false}

@@ -12,7 +12,7 @@ shared-slice-read-within-1200 : tie.Need-shared-slice-read-within-1200
 shared-slice-read-within-1200 c = search needs
 
 within-1200-requires : tie.Need-within-1200-requires
-within-1200-requires c κs = search needs
+within-1200-requires c κs = tt
 
 returns : tie.Need-returns
 unfolding regionOf pitchOf
@@ -22,7 +22,7 @@ shared-slice-read-within-9600 : tie.Need-shared-slice-read-within-9600
 shared-slice-read-within-9600 c = search needs
 
 within-9600-requires : tie.Need-within-9600-requires
-within-9600-requires c κs = search needs
+within-9600-requires c κs = tt
 
 returns-2 : tie.Need-returns-2
 unfolding regionOf pitchOf
@@ -32,7 +32,7 @@ shared-slice-read-within-9600-2 : tie.Need-shared-slice-read-within-9600-2
 shared-slice-read-within-9600-2 c = search needs
 
 within-9600-requires-2 : tie.Need-within-9600-requires-2
-within-9600-requires-2 c κs = search needs
+within-9600-requires-2 c κs = tt
 
 returns-3 : tie.Need-returns-3
 unfolding regionOf pitchOf
@@ -42,7 +42,7 @@ shared-slice-read-within-9600-3 : tie.Need-shared-slice-read-within-9600-3
 shared-slice-read-within-9600-3 c = search needs
 
 within-9600-requires-3 : tie.Need-within-9600-requires-3
-within-9600-requires-3 c κs = search needs
+within-9600-requires-3 c κs = tt
 
 returns-4 : tie.Need-returns-4
 unfolding regionOf pitchOf
@@ -52,7 +52,7 @@ shared-slice-read-transpose-ok : tie.Need-shared-slice-read-transpose-ok
 shared-slice-read-transpose-ok c = search needs
 
 transpose-ok-requires : tie.Need-transpose-ok-requires
-transpose-ok-requires c κs = search needs
+transpose-ok-requires c κs = tt
 
 returns-5 : tie.Need-returns-5
 unfolding regionOf pitchOf

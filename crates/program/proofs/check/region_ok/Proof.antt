@@ -18,7 +18,7 @@ shared-slice-read-sample-ok : tie.Need-shared-slice-read-sample-ok
 shared-slice-read-sample-ok c = search needs
 
 sample-ok-requires : tie.Need-sample-ok-requires
-sample-ok-requires c κs = search needs
+sample-ok-requires c κs = tt
 
 returns-2 : tie.Need-returns-2
 unfolding regionOf playbackOf choiceOf validRegion

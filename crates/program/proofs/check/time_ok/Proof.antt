@@ -1,10 +1,9 @@
 use mathlib.Core.Path.{_≡_, refl, sym, ap, _∙_}
-use borrow.Author.Needs.{needs}
 use Rattle.program.proofs.check.time_ok.Statement.{statement}
 use Rattle.program.proofs.check.time_ok.Tie as tie
 
 float-of-requires : tie.Need-float-of-requires
-float-of-requires c κs = search needs
+float-of-requires c κs = tt
 
 returns : tie.Need-returns
 returns c = cc

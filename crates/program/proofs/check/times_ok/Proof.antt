@@ -1,7 +1,6 @@
 use Rattle.program.specs.Valid.{every, timesTests, notAbove}
 use Rattle.program.specs.Region.{floatOf, word, regionOf}
 use Rattle.program.proofs.Checks.{fails, passes, ends, TimesFrom, times-are}
-use borrow.Author.Needs.{needs}
 use native.Mathlib.Omega.{arith}
 use Prim.Native.Nat.{ℕ, _+_, _-_, _*_, _≤_, _<_}
 use borrow.Author.Tests.{eq-eqb, ne-eqb, lt-leb, le-leb, lt-ltb, le-ltb, not-true, not-false}

@@ -3,12 +3,11 @@ use mir.Syntax.{w32}
 use mir.Facts.{toZ-ofZ}
 use borrow.Author.Tests.{eq-eqb, ne-eqb, lt-leb, le-leb, lt-ltb, le-ltb, not-true, not-false}
 use mathlib.Core.Path.{_≡_, refl, sym, ap, _∙_}
-use borrow.Author.Needs.{needs}
 use Rattle.program.proofs.check.transpose_ok.Statement.{statement}
 use Rattle.program.proofs.check.transpose_ok.Tie as tie
 
 signed-of-requires : tie.Need-signed-of-requires
-signed-of-requires c κs = search needs
+signed-of-requires c κs = tt
 
 returns : tie.Need-returns
 returns c = let s = c .before .signed-of in far-down _ _ ((toZ-ofZ {w = w32} {z = s .result} (record { sfits = s .ok })) ∙ s .ensures) (not-true _ (c .if1 .taken))

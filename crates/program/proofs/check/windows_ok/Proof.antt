@@ -10,13 +10,13 @@ shared-slice-read-byte-of : tie.Need-shared-slice-read-byte-of
 shared-slice-read-byte-of c = search needs
 
 byte-of-requires : tie.Need-byte-of-requires
-byte-of-requires c κs = search needs
+byte-of-requires c κs = tt
 
 shared-slice-read-byte-of-2 : tie.Need-shared-slice-read-byte-of-2
 shared-slice-read-byte-of-2 c = search needs
 
 byte-of-requires-2 : tie.Need-byte-of-requires-2
-byte-of-requires-2 c κs = search needs
+byte-of-requires-2 c κs = tt
 
 returns : tie.Need-returns
 returns c = let s = c .before .before .before in no-keys (s .before .before .before .args .r .now) (s .byte-of .result) (c .before .byte-of2 .result) 0 0 (s .byte-of .ensures) (c .before .byte-of2 .ensures) (c .if1 .taken)
@@ -25,13 +25,13 @@ shared-slice-read-byte-of-3 : tie.Need-shared-slice-read-byte-of-3
 shared-slice-read-byte-of-3 c = search needs
 
 byte-of-requires-3 : tie.Need-byte-of-requires-3
-byte-of-requires-3 c κs = search needs
+byte-of-requires-3 c κs = tt
 
 shared-slice-read-byte-of-4 : tie.Need-shared-slice-read-byte-of-4
 shared-slice-read-byte-of-4 c = search needs
 
 byte-of-requires-4 : tie.Need-byte-of-requires-4
-byte-of-requires-4 c κs = search needs
+byte-of-requires-4 c κs = tt
 
 returns-2 : tie.Need-returns-2
 returns-2 c = let i = c .before .before .before .before in let s = i .before .before .before in some-keys (s .before .before .before .args .r .now) (s .byte-of .result) (i .before .byte-of2 .result) _ _ (s .byte-of .ensures) (i .before .byte-of2 .ensures) (i .if1 .left) (c .before .before .byte-of3 .ensures) (c .byte-of4 .ensures)

@@ -2,12 +2,11 @@ use lib.Ieee.{neg, ofBits}
 use Rattle.program.specs.Region.{floatOf}
 use Rattle.program.proofs.Checks.{too-low, not-low}
 use mathlib.Core.Path.{_≡_, refl, sym, ap, _∙_}
-use borrow.Author.Needs.{needs}
 use Rattle.program.proofs.check.within_9600.Statement.{statement}
 use Rattle.program.proofs.check.within_9600.Tie as tie
 
 float-of-requires : tie.Need-float-of-requires
-float-of-requires c κs = search needs
+float-of-requires c κs = tt
 
 returns : tie.Need-returns
 unfolding neg ofBits

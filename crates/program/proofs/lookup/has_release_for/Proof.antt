@@ -1,6 +1,5 @@
 use Rattle.program.specs.Lookup.{hasReleaseFor}
 use Rattle.program.proofs.Lookups.{SomeFrom, fires-first, fires-here, fires-later, fires-none}
-use borrow.Author.Needs.{needs}
 use Prim.Native.Nat.{ℕ, _+_, _-_, _*_, _≤_, _<_}
 use native.Mathlib.Omega.{arith}
 use borrow.Author.Tests.{eq-eqb, ne-eqb, lt-leb, le-leb, lt-ltb, le-ltb, not-true, not-false}

@@ -1,15 +1,14 @@
 use Rattle.program.specs.declared.region.Window.{Window}
 use Rattle.program.proofs.Lookups.{below-it, not-below}
 use mathlib.Core.Path.{_≡_, refl, sym, ap, _∙_}
-use borrow.Author.Needs.{needs}
 use Rattle.program.proofs.lookup.holds_key.Statement.{statement}
 use Rattle.program.proofs.lookup.holds_key.Tie as tie
 
 window-at-requires : tie.Need-window-at-requires
-window-at-requires c κs = search needs
+window-at-requires c κs = tt
 
 key-of-requires : tie.Need-key-of-requires
-key-of-requires c κs = search needs
+key-of-requires c κs = tt
 
 returns : tie.Need-returns
 returns c = let w = c .before .before .before .window-at in below-it _ _ _ _ _ _ (ap (λ (v : Window). v .lokey) (w .ensures)) (ap (λ (v : Window). v .hikey) (w .ensures)) (c .before .before .key-of .ensures) (c .if1 .taken)

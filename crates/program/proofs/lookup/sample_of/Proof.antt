@@ -6,7 +6,7 @@ use Rattle.program.proofs.lookup.sample_of.Statement.{statement}
 use Rattle.program.proofs.lookup.sample_of.Tie as tie
 
 sample-index-requires : tie.Need-sample-index-requires
-sample-index-requires c κs = search needs
+sample-index-requires c κs = tt
 
 returns : tie.Need-returns
 returns c = reads-silence (c .before .before .before .before .args .words .now) (c .before .before .before .before .args .samples .now) (c .before .before .before .before .args .i) _ (c .before .sample-index .ensures) (c .if1 .taken)
@@ -18,7 +18,7 @@ returns-2 : tie.Need-returns-2
 returns-2 c = reads-outside (c .before .before .before .before .before .args .words .now) (c .before .before .before .before .before .args .samples .now) (c .before .before .before .before .before .args .i) _ (c .before .before .sample-index .ensures) (c .before .if1 .left) (c .if2 .taken)
 
 sample-at-requires : tie.Need-sample-at-requires
-sample-at-requires c κs = search needs
+sample-at-requires c κs = tt
 
 returns-3 : tie.Need-returns-3
 returns-3 c = ap Plays (c .sample-at .ensures) ∙ reads-sample (c .before .before .before .before .before .before .args .words .now) (c .before .before .before .before .before .before .args .samples .now) (c .before .before .before .before .before .before .args .i) _ (c .before .before .before .sample-index .ensures) (c .before .before .if1 .left) (c .before .if2 .left)

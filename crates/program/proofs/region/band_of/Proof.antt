@@ -10,71 +10,41 @@ shared-slice-read-eq-kind-of : tie.Need-shared-slice-read-eq-kind-of
 shared-slice-read-eq-kind-of c = search needs
 
 eq-kind-of-requires : tie.Need-eq-kind-of-requires
-eq-kind-of-requires c κs = search needs
+eq-kind-of-requires c κs = tt
 
-add-float-of : tie.Need-add-float-of
-add-float-of c = search needs
+add-float-at : tie.Need-add-float-at
+add-float-at c = search needs
 
-mul-float-of : tie.Need-mul-float-of
-mul-float-of c = search needs
+float-at-requires : tie.Need-float-at-requires
+float-at-requires c κs = search needs
 
-shared-slice-read-float-of : tie.Need-shared-slice-read-float-of
-shared-slice-read-float-of c = search needs
+add-float-at-2 : tie.Need-add-float-at-2
+add-float-at-2 c = search needs
 
-float-of-requires : tie.Need-float-of-requires
-float-of-requires c κs = search needs
+float-at-requires-2 : tie.Need-float-at-requires-2
+float-at-requires-2 c κs = search needs
 
-add-float-of-2 : tie.Need-add-float-of-2
-add-float-of-2 c = search needs
+add-float-at-3 : tie.Need-add-float-at-3
+add-float-at-3 c = search needs
 
-mul-float-of-2 : tie.Need-mul-float-of-2
-mul-float-of-2 c = search needs
+float-at-requires-3 : tie.Need-float-at-requires-3
+float-at-requires-3 c κs = search needs
 
-shared-slice-read-float-of-2 : tie.Need-shared-slice-read-float-of-2
-shared-slice-read-float-of-2 c = search needs
+add-float-at-4 : tie.Need-add-float-at-4
+add-float-at-4 c = search needs
 
-float-of-requires-2 : tie.Need-float-of-requires-2
-float-of-requires-2 c κs = search needs
+float-at-requires-4 : tie.Need-float-at-requires-4
+float-at-requires-4 c κs = search needs
 
-add-float-of-3 : tie.Need-add-float-of-3
-add-float-of-3 c = search needs
+add-float-at-5 : tie.Need-add-float-at-5
+add-float-at-5 c = search needs
 
-mul-float-of-3 : tie.Need-mul-float-of-3
-mul-float-of-3 c = search needs
-
-shared-slice-read-float-of-3 : tie.Need-shared-slice-read-float-of-3
-shared-slice-read-float-of-3 c = search needs
-
-float-of-requires-3 : tie.Need-float-of-requires-3
-float-of-requires-3 c κs = search needs
-
-add-float-of-4 : tie.Need-add-float-of-4
-add-float-of-4 c = search needs
-
-mul-float-of-4 : tie.Need-mul-float-of-4
-mul-float-of-4 c = search needs
-
-shared-slice-read-float-of-4 : tie.Need-shared-slice-read-float-of-4
-shared-slice-read-float-of-4 c = search needs
-
-float-of-requires-4 : tie.Need-float-of-requires-4
-float-of-requires-4 c κs = search needs
-
-add-float-of-5 : tie.Need-add-float-of-5
-add-float-of-5 c = search needs
-
-mul-float-of-5 : tie.Need-mul-float-of-5
-mul-float-of-5 c = search needs
-
-shared-slice-read-float-of-5 : tie.Need-shared-slice-read-float-of-5
-shared-slice-read-float-of-5 c = search needs
-
-float-of-requires-5 : tie.Need-float-of-requires-5
-float-of-requires-5 c κs = search needs
+float-at-requires-5 : tie.Need-float-at-requires-5
+float-at-requires-5 c κs = search needs
 
 returns : tie.Need-returns
 unfolding bandOf
-returns c = cc
+returns c = rw (c .before .before .before .before .before .eq-kind-of .ensures, c .before .before .before .before .float-at .ensures, c .before .before .before .float-at2 .ensures, c .before .before .float-at3 .ensures, c .before .float-at4 .ensures, c .float-at5 .ensures)
 
 pub band-of-spec : {M : Type 1} → statement M
 band-of-spec =
@@ -83,24 +53,14 @@ band-of-spec =
     mul-eq-kind-of
     shared-slice-read-eq-kind-of
     eq-kind-of-requires
-    add-float-of
-    mul-float-of
-    shared-slice-read-float-of
-    float-of-requires
-    add-float-of-2
-    mul-float-of-2
-    shared-slice-read-float-of-2
-    float-of-requires-2
-    add-float-of-3
-    mul-float-of-3
-    shared-slice-read-float-of-3
-    float-of-requires-3
-    add-float-of-4
-    mul-float-of-4
-    shared-slice-read-float-of-4
-    float-of-requires-4
-    add-float-of-5
-    mul-float-of-5
-    shared-slice-read-float-of-5
-    float-of-requires-5
+    add-float-at
+    float-at-requires
+    add-float-at-2
+    float-at-requires-2
+    add-float-at-3
+    float-at-requires-3
+    add-float-at-4
+    float-at-requires-4
+    add-float-at-5
+    float-at-requires-5
     returns)

@@ -23,7 +23,7 @@ band-of-requires-6 c κs = search needs
 
 returns : tie.Need-returns
 unfolding bandsOf
-returns c = cc
+returns c = rw (c .before .before .before .before .before .band-of .ensures, c .before .before .before .before .band-of2 .ensures, c .before .before .before .band-of3 .ensures, c .before .before .band-of4 .ensures, c .before .band-of5 .ensures, c .band-of6 .ensures)
 
 pub bands-of-spec : {M : Type 1} → statement M
 bands-of-spec =

@@ -10,83 +10,47 @@ shared-slice-read-filter-kind-of : tie.Need-shared-slice-read-filter-kind-of
 shared-slice-read-filter-kind-of c = search needs
 
 filter-kind-of-requires : tie.Need-filter-kind-of-requires
-filter-kind-of-requires c κs = search needs
+filter-kind-of-requires c κs = tt
 
-add-float-of : tie.Need-add-float-of
-add-float-of c = search needs
+add-float-at : tie.Need-add-float-at
+add-float-at c = search needs
 
-mul-float-of : tie.Need-mul-float-of
-mul-float-of c = search needs
+float-at-requires : tie.Need-float-at-requires
+float-at-requires c κs = search needs
 
-shared-slice-read-float-of : tie.Need-shared-slice-read-float-of
-shared-slice-read-float-of c = search needs
+add-float-at-2 : tie.Need-add-float-at-2
+add-float-at-2 c = search needs
 
-float-of-requires : tie.Need-float-of-requires
-float-of-requires c κs = search needs
+float-at-requires-2 : tie.Need-float-at-requires-2
+float-at-requires-2 c κs = search needs
 
-add-float-of-2 : tie.Need-add-float-of-2
-add-float-of-2 c = search needs
+add-float-at-3 : tie.Need-add-float-at-3
+add-float-at-3 c = search needs
 
-mul-float-of-2 : tie.Need-mul-float-of-2
-mul-float-of-2 c = search needs
+float-at-requires-3 : tie.Need-float-at-requires-3
+float-at-requires-3 c κs = search needs
 
-shared-slice-read-float-of-2 : tie.Need-shared-slice-read-float-of-2
-shared-slice-read-float-of-2 c = search needs
+add-byte-at : tie.Need-add-byte-at
+add-byte-at c = search needs
 
-float-of-requires-2 : tie.Need-float-of-requires-2
-float-of-requires-2 c κs = search needs
+byte-at-requires : tie.Need-byte-at-requires
+byte-at-requires c κs = search needs
 
-add-float-of-3 : tie.Need-add-float-of-3
-add-float-of-3 c = search needs
+add-float-at-4 : tie.Need-add-float-at-4
+add-float-at-4 c = search needs
 
-mul-float-of-3 : tie.Need-mul-float-of-3
-mul-float-of-3 c = search needs
+float-at-requires-4 : tie.Need-float-at-requires-4
+float-at-requires-4 c κs = search needs
 
-shared-slice-read-float-of-3 : tie.Need-shared-slice-read-float-of-3
-shared-slice-read-float-of-3 c = search needs
+add-float-at-5 : tie.Need-add-float-at-5
+add-float-at-5 c = search needs
 
-float-of-requires-3 : tie.Need-float-of-requires-3
-float-of-requires-3 c κs = search needs
-
-add-byte-of : tie.Need-add-byte-of
-add-byte-of c = search needs
-
-mul-byte-of : tie.Need-mul-byte-of
-mul-byte-of c = search needs
-
-shared-slice-read-byte-of : tie.Need-shared-slice-read-byte-of
-shared-slice-read-byte-of c = search needs
-
-byte-of-requires : tie.Need-byte-of-requires
-byte-of-requires c κs = search needs
-
-add-float-of-4 : tie.Need-add-float-of-4
-add-float-of-4 c = search needs
-
-mul-float-of-4 : tie.Need-mul-float-of-4
-mul-float-of-4 c = search needs
-
-shared-slice-read-float-of-4 : tie.Need-shared-slice-read-float-of-4
-shared-slice-read-float-of-4 c = search needs
-
-float-of-requires-4 : tie.Need-float-of-requires-4
-float-of-requires-4 c κs = search needs
-
-add-float-of-5 : tie.Need-add-float-of-5
-add-float-of-5 c = search needs
-
-mul-float-of-5 : tie.Need-mul-float-of-5
-mul-float-of-5 c = search needs
-
-shared-slice-read-float-of-5 : tie.Need-shared-slice-read-float-of-5
-shared-slice-read-float-of-5 c = search needs
-
-float-of-requires-5 : tie.Need-float-of-requires-5
-float-of-requires-5 c κs = search needs
+float-at-requires-5 : tie.Need-float-at-requires-5
+float-at-requires-5 c κs = search needs
 
 returns : tie.Need-returns
 unfolding filterOf
-returns c = cc
+returns c = rw (c .before .before .before .before .before .before .filter-kind-of .ensures, c .before .before .before .before .before .float-at .ensures, c .before .before .before .before .float-at2 .ensures, c .before .before .before .float-at3 .ensures, c .before .before .byte-at .ensures, c .before .float-at4 .ensures, c .float-at5 .ensures)
 
 pub filter-of-spec : {M : Type 1} → statement M
 filter-of-spec =
@@ -95,28 +59,16 @@ filter-of-spec =
     mul-filter-kind-of
     shared-slice-read-filter-kind-of
     filter-kind-of-requires
-    add-float-of
-    mul-float-of
-    shared-slice-read-float-of
-    float-of-requires
-    add-float-of-2
-    mul-float-of-2
-    shared-slice-read-float-of-2
-    float-of-requires-2
-    add-float-of-3
-    mul-float-of-3
-    shared-slice-read-float-of-3
-    float-of-requires-3
-    add-byte-of
-    mul-byte-of
-    shared-slice-read-byte-of
-    byte-of-requires
-    add-float-of-4
-    mul-float-of-4
-    shared-slice-read-float-of-4
-    float-of-requires-4
-    add-float-of-5
-    mul-float-of-5
-    shared-slice-read-float-of-5
-    float-of-requires-5
+    add-float-at
+    float-at-requires
+    add-float-at-2
+    float-at-requires-2
+    add-float-at-3
+    float-at-requires-3
+    add-byte-at
+    byte-at-requires
+    add-float-at-4
+    float-at-requires-4
+    add-float-at-5
+    float-at-requires-5
     returns)

@@ -23,7 +23,7 @@ filter-of-requires-6 c κs = search needs
 
 returns : tie.Need-returns
 unfolding filtersOf
-returns c = cc
+returns c = rw (c .before .before .before .before .before .filter-of .ensures, c .before .before .before .before .filter-of2 .ensures, c .before .before .before .filter-of3 .ensures, c .before .before .filter-of4 .ensures, c .before .filter-of5 .ensures, c .filter-of6 .ensures)
 
 pub filters-of-spec : {M : Type 1} → statement M
 filters-of-spec =

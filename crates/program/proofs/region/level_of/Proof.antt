@@ -3,68 +3,44 @@ use borrow.Author.Needs.{needs}
 use Rattle.program.proofs.region.level_of.Statement.{statement}
 use Rattle.program.proofs.region.level_of.Tie as tie
 
-shared-slice-read-float-of : tie.Need-shared-slice-read-float-of
-shared-slice-read-float-of c = search needs
+float-at-requires : tie.Need-float-at-requires
+float-at-requires c κs = search needs
 
-float-of-requires : tie.Need-float-of-requires
-float-of-requires c κs = search needs
+float-at-requires-2 : tie.Need-float-at-requires-2
+float-at-requires-2 c κs = search needs
 
-shared-slice-read-float-of-2 : tie.Need-shared-slice-read-float-of-2
-shared-slice-read-float-of-2 c = search needs
+float-at-requires-3 : tie.Need-float-at-requires-3
+float-at-requires-3 c κs = search needs
 
-float-of-requires-2 : tie.Need-float-of-requires-2
-float-of-requires-2 c κs = search needs
+float-at-requires-4 : tie.Need-float-at-requires-4
+float-at-requires-4 c κs = search needs
 
-shared-slice-read-float-of-3 : tie.Need-shared-slice-read-float-of-3
-shared-slice-read-float-of-3 c = search needs
+float-at-requires-5 : tie.Need-float-at-requires-5
+float-at-requires-5 c κs = search needs
 
-float-of-requires-3 : tie.Need-float-of-requires-3
-float-of-requires-3 c κs = search needs
-
-shared-slice-read-float-of-4 : tie.Need-shared-slice-read-float-of-4
-shared-slice-read-float-of-4 c = search needs
-
-float-of-requires-4 : tie.Need-float-of-requires-4
-float-of-requires-4 c κs = search needs
-
-shared-slice-read-float-of-5 : tie.Need-shared-slice-read-float-of-5
-shared-slice-read-float-of-5 c = search needs
-
-float-of-requires-5 : tie.Need-float-of-requires-5
-float-of-requires-5 c κs = search needs
-
-shared-slice-read-t18 : tie.Need-shared-slice-read-t18
-shared-slice-read-t18 c = search needs
+shared-slice-read-t8 : tie.Need-shared-slice-read-t8
+shared-slice-read-t8 c = search needs
 
 crossfade-of-requires : tie.Need-crossfade-of-requires
 crossfade-of-requires c κs = search needs
 
-shared-slice-read-float-of-6 : tie.Need-shared-slice-read-float-of-6
-shared-slice-read-float-of-6 c = search needs
-
-float-of-requires-6 : tie.Need-float-of-requires-6
-float-of-requires-6 c κs = search needs
+float-at-requires-6 : tie.Need-float-at-requires-6
+float-at-requires-6 c κs = search needs
 
 returns : tie.Need-returns
 unfolding levelOf
-returns c = cc
+returns c = rw (c .before .before .before .before .before .before .before .float-at .ensures, c .before .before .before .before .before .before .float-at2 .ensures, c .before .before .before .before .before .float-at3 .ensures, c .before .before .before .before .float-at4 .ensures, c .before .before .before .float-at5 .ensures, c .before .crossfade-of .ensures, c .float-at6 .ensures)
 
 pub level-of-spec : {M : Type 1} → statement M
 level-of-spec =
     tie.close
     (tie.spec
-    shared-slice-read-float-of
-    float-of-requires
-    shared-slice-read-float-of-2
-    float-of-requires-2
-    shared-slice-read-float-of-3
-    float-of-requires-3
-    shared-slice-read-float-of-4
-    float-of-requires-4
-    shared-slice-read-float-of-5
-    float-of-requires-5
-    shared-slice-read-t18
+    float-at-requires
+    float-at-requires-2
+    float-at-requires-3
+    float-at-requires-4
+    float-at-requires-5
+    shared-slice-read-t8
     crossfade-of-requires
-    shared-slice-read-float-of-6
-    float-of-requires-6
+    float-at-requires-6
     returns)

@@ -5,60 +5,40 @@ use borrow.Author.Needs.{needs}
 use Rattle.program.proofs.region.pitch_of.Statement.{statement}
 use Rattle.program.proofs.region.pitch_of.Tie as tie
 
-shared-slice-read-byte-of : tie.Need-shared-slice-read-byte-of
-shared-slice-read-byte-of c = search needs
+byte-at-requires : tie.Need-byte-at-requires
+byte-at-requires c κs = search needs
 
-byte-of-requires : tie.Need-byte-of-requires
-byte-of-requires c κs = search needs
+float-at-requires : tie.Need-float-at-requires
+float-at-requires c κs = search needs
 
-shared-slice-read-float-of : tie.Need-shared-slice-read-float-of
-shared-slice-read-float-of c = search needs
-
-float-of-requires : tie.Need-float-of-requires
-float-of-requires c κs = search needs
-
-shared-slice-read-float-of-2 : tie.Need-shared-slice-read-float-of-2
-shared-slice-read-float-of-2 c = search needs
-
-float-of-requires-2 : tie.Need-float-of-requires-2
-float-of-requires-2 c κs = search needs
+float-at-requires-2 : tie.Need-float-at-requires-2
+float-at-requires-2 c κs = search needs
 
 shared-slice-read-signed-of : tie.Need-shared-slice-read-signed-of
 shared-slice-read-signed-of c = search needs
 
 signed-of-requires : tie.Need-signed-of-requires
-signed-of-requires c κs = search needs
+signed-of-requires c κs = tt
 
-shared-slice-read-float-of-3 : tie.Need-shared-slice-read-float-of-3
-shared-slice-read-float-of-3 c = search needs
+float-at-requires-3 : tie.Need-float-at-requires-3
+float-at-requires-3 c κs = search needs
 
-float-of-requires-3 : tie.Need-float-of-requires-3
-float-of-requires-3 c κs = search needs
-
-shared-slice-read-float-of-4 : tie.Need-shared-slice-read-float-of-4
-shared-slice-read-float-of-4 c = search needs
-
-float-of-requires-4 : tie.Need-float-of-requires-4
-float-of-requires-4 c κs = search needs
+float-at-requires-4 : tie.Need-float-at-requires-4
+float-at-requires-4 c κs = search needs
 
 returns : tie.Need-returns
 unfolding pitchOf
-returns c = let s = c .before .before .before .before .signed-of in cc (toZ-ofZ {w = w32} {z = s .result} (record { sfits = s .ok }))
+returns c = rw (toZ-ofZ {w = w32} {z = c .before .before .signed-of .result} (record { sfits = c .before .before .signed-of .ok }), c .before .before .before .before .before .before .byte-at .ensures, c .before .before .before .before .before .float-at .ensures, c .before .before .before .before .float-at2 .ensures, c .before .before .signed-of .ensures, c .before .float-at3 .ensures, c .float-at4 .ensures)
 
 pub pitch-of-spec : {M : Type 1} → statement M
 pitch-of-spec =
     tie.close
     (tie.spec
-    shared-slice-read-byte-of
-    byte-of-requires
-    shared-slice-read-float-of
-    float-of-requires
-    shared-slice-read-float-of-2
-    float-of-requires-2
+    byte-at-requires
+    float-at-requires
+    float-at-requires-2
     shared-slice-read-signed-of
     signed-of-requires
-    shared-slice-read-float-of-3
-    float-of-requires-3
-    shared-slice-read-float-of-4
-    float-of-requires-4
+    float-at-requires-3
+    float-at-requires-4
     returns)

@@ -13,19 +13,19 @@ shared-slice-read-maybe-of-2 : tie.Need-shared-slice-read-maybe-of-2
 shared-slice-read-maybe-of-2 c = search needs
 
 maybe-of-requires : tie.Need-maybe-of-requires
-maybe-of-requires c κs = search needs
+maybe-of-requires c κs = tt
 
 shared-slice-read-loop-mode-of : tie.Need-shared-slice-read-loop-mode-of
 shared-slice-read-loop-mode-of c = search needs
 
 loop-mode-of-requires : tie.Need-loop-mode-of-requires
-loop-mode-of-requires c κs = search needs
+loop-mode-of-requires c κs = tt
 
 shared-slice-read-loop-source-of : tie.Need-shared-slice-read-loop-source-of
 shared-slice-read-loop-source-of c = search needs
 
 loop-source-of-requires : tie.Need-loop-source-of-requires
-loop-source-of-requires c κs = search needs
+loop-source-of-requires c κs = tt
 
 shared-slice-read-loop-points-of : tie.Need-shared-slice-read-loop-points-of
 shared-slice-read-loop-points-of c = search needs
@@ -37,17 +37,14 @@ shared-slice-read-loop-points-of-3 : tie.Need-shared-slice-read-loop-points-of-3
 shared-slice-read-loop-points-of-3 c = search needs
 
 loop-points-of-requires : tie.Need-loop-points-of-requires
-loop-points-of-requires c κs = search needs
+loop-points-of-requires c κs = tt
 
-shared-slice-read-float-of : tie.Need-shared-slice-read-float-of
-shared-slice-read-float-of c = search needs
-
-float-of-requires : tie.Need-float-of-requires
-float-of-requires c κs = search needs
+float-at-requires : tie.Need-float-at-requires
+float-at-requires c κs = search needs
 
 returns : tie.Need-returns
 unfolding playbackOf
-returns c = cc
+returns c = rw (c .before .before .before .before .before .before .before .before .before .maybe-of .ensures, c .before .before .before .before .before .before .before .loop-mode-of .ensures, c .before .before .before .before .before .loop-source-of .ensures, c .before .loop-points-of .ensures, c .float-at .ensures)
 
 pub playback-of-spec : {M : Type 1} → statement M
 playback-of-spec =
@@ -65,6 +62,5 @@ playback-of-spec =
     shared-slice-read-loop-points-of-2
     shared-slice-read-loop-points-of-3
     loop-points-of-requires
-    shared-slice-read-float-of
-    float-of-requires
+    float-at-requires
     returns)

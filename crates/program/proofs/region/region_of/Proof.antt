@@ -41,7 +41,7 @@ bands-of-requires c κs = search needs
 
 returns : tie.Need-returns
 unfolding regionOf
-returns c = cc
+returns c = rw (c .before .before .before .before .before .before .before .before .before .before .window-of .ensures, c .before .before .before .before .before .before .before .before .before .pitch-of .ensures, c .before .before .before .before .before .before .before .before .playback-of .ensures, c .before .before .before .before .before .before .before .level-of .ensures, c .before .before .before .before .before .before .choice-of .ensures, c .before .before .before .before .before .choke-of .ensures, c .before .before .before .before .envelope-of .ensures, c .before .before .filters-of .ensures, c .bands-of .ensures)
 
 pub region-of-spec : {M : Type 1} → statement M
 region-of-spec =

@@ -3,12 +3,11 @@ use Rattle.program.specs.Sample.{rateTests}
 use Rattle.program.proofs.Checks.{every-no, after, final}
 use borrow.Author.Tests.{eq-eqb, ne-eqb, lt-leb, le-leb, lt-ltb, le-ltb, not-true, not-false}
 use mathlib.Core.Path.{_≡_, refl, sym, ap, _∙_}
-use borrow.Author.Needs.{needs}
 use Rattle.program.proofs.sample.rate_ok.Statement.{statement}
 use Rattle.program.proofs.sample.rate_ok.Tie as tie
 
 is-finite-requires : tie.Need-is-finite-requires
-is-finite-requires c κs = search needs
+is-finite-requires c κs = tt
 
 returns : tie.Need-returns
 returns c = every-no (rateTests (c .before .before .args .rate)) 0 (sym (c .before .is-finite .ensures) ∙ not-true _ (c .if1 .taken))

@@ -18,7 +18,7 @@ shared-slice-read-float-of : tie.Need-shared-slice-read-float-of
 shared-slice-read-float-of c = search needs
 
 float-of-requires : tie.Need-float-of-requires
-float-of-requires c κs = search needs
+float-of-requires c κs = tt
 
 add-t11 : tie.Need-add-t11
 add-t11 c = search needs
@@ -49,7 +49,7 @@ shared-slice-read-t22 c = search needs
 
 returns : tie.Need-returns
 unfolding sampleAt
-returns c = simp (le-leb _ _ (c .before .before .before .before .before .if1 .taken)) (cc)
+returns c = simp (le-leb _ _ (c .before .before .before .before .before .if1 .taken)) (rw (c .before .before .before .float-of .ensures))
 
 returns-2 : tie.Need-returns-2
 unfolding sampleAt

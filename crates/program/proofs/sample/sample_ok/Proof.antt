@@ -13,7 +13,7 @@ use Rattle.program.proofs.sample.sample_ok.Statement.{statement}
 use Rattle.program.proofs.sample.sample_ok.Tie as tie
 
 shape-ok-requires : tie.Need-shape-ok-requires
-shape-ok-requires c κs = search needs
+shape-ok-requires c κs = tt
 
 returns : tie.Need-returns
 returns c = every-no (sampleTests (c .before .before .before .args .frames .now) (c .before .before .before .args .s)) 0 (sym (c .before .shape-ok .ensures) ∙ not-true _ (c .if1 .taken))

@@ -17,7 +17,7 @@ returns-2 : tie.Need-returns-2
 returns-2 c = every-no (shapeTests (c .before .before .before .before .args .total) (c .before .before .before .before .args .s)) 1 (lt-leb _ _ (c .if2 .taken))
 
 rate-ok-requires : tie.Need-rate-ok-requires
-rate-ok-requires c κs = search needs
+rate-ok-requires c κs = tt
 
 returns-3 : tie.Need-returns-3
 returns-3 c = every-no (shapeTests (c .before .before .before .before .before .before .args .total) (c .before .before .before .before .before .before .args .s)) 2 (sym (c .before .rate-ok .ensures) ∙ not-true _ (c .if3 .taken))
