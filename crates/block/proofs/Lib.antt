@@ -1,0 +1,6 @@
+pub mod Firsts
+pub mod Strikes
+pub mod Lasting
+pub mod Scenes
+pub mod Framing
+pub mod Wholes
