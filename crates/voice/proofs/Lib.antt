@@ -1,0 +1,4 @@
+pub mod Refusals
+pub mod Passed
+pub mod Numbers
+pub mod Tied

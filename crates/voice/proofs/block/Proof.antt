@@ -1,0 +1,141 @@
+use denote.Ref.{now}
+use mathlib.Core.Path.{_≡_, sym, ap, _∙_}
+use mathlib.Core.Bool.{true}
+use lib.ListN.{length}
+use borrow.Author.Tests.{not-true, not-false}
+use borrow.Author.Needs.{needs}
+use Rattle.session.proofs.Walks.{long}
+use Rattle.block.specs.Inputs.{Lent}
+use Rattle.voice.specs.Tests.{partsFit, lengthsOf, stateFits, inTime}
+use Rattle.voice.proofs.Refusals.{block-7, block-8, block-9}
+use Rattle.voice.proofs.Passed.{in-left, in-right, ready, block-out}
+use Rattle.voice.proofs.block.Statement.{statement}
+use Rattle.voice.proofs.block.Tie as tie
+
+-- what the call was lent, as its promise has it
+abbrev lent : tie.Start → Lent
+lent e = record {
+  time = e .args .t;
+  connected = e .args .c;
+  words = now (e .args .words);
+  samples = now (e .args .samples);
+  pcm = now (e .args .pcm);
+  table = now (e .args .table);
+  freq = now (e .args .freq);
+  gate = now (e .args .gate);
+  vel = now (e .args .vel);
+  amp = now (e .args .amp);
+  seed = now (e .args .seed);
+  bend = now (e .args .bend);
+  quality = now (e .args .quality);
+  left = now (e .args .left);
+  right = now (e .args .right);
+}
+
+-- the function's entry, from the first test
+abbrev entry : tie.Else1 → tie.Start
+entry c = c .before .before .before .before .before .before .before .before .before .before .before .before .before .before .before .before
+
+passed-7 : (c : tie.Else1) → partsFit (entry c .args .t .frames) (entry c .args .c) (lengthsOf (lent (entry c))) ≡ true
+passed-7 c = sym (c .before .parts-fit .ensures ∙ ap (partsFit (entry c .args .t .frames) (entry c .args .c)) (c .before .before .lengths-of .ensures)) ∙ not-false _ (c .if1 .left)
+
+abbrev first : tie.Else2 → tie.Else1
+first c = c .before .before
+
+passed-8 : (c : tie.Else2) → let e = entry (first c) .args in stateFits (e .s) (e .v) (now (e .words)) (now (e .samples)) (length (now (e .pcm))) (length (now (e .table))) ≡ true
+passed-8 c = sym (c .before .state-fits .ensures) ∙ not-false _ (c .if2 .left)
+
+abbrev second : tie.Else3 → tie.Else2
+second c = c .before .before
+
+passed-9 : (c : tie.Else3) → let e = entry (first (second c)) .args in inTime (e .t .offset) (e .s .«event_serial») ≡ true
+passed-9 c = sym (c .before .in-time .ensures) ∙ not-false _ (c .if3 .left)
+
+-- the places of the players, as their type has them
+sized : (e : tie.Start) → length (e .args .v .players .players) ≡ 32
+sized e = long _ (e .args .v .players .players) 32 (e .good .1 .0 .1 .1 .1 .1 .1 .1 .1 .1 .1 .0 .1 .1 .0 .1 .0 .1)
+
+lengths-of-requires : tie.Need-lengths-of-requires
+lengths-of-requires c κs = search needs
+
+parts-fit-requires : tie.Need-parts-fit-requires
+parts-fit-requires c κs = search needs
+
+refused-requires : tie.Need-refused-requires
+refused-requires c κs = search needs
+
+returns : tie.Need-returns
+returns c = let e = c .before .before .before .before .before .before .before .before .before .before .before .before .before .before .before .before .before in block-7 (lent e) (e .args .s) (e .args .v) _ (c .refused .ensures) (sym (c .before .before .parts-fit .ensures ∙ ap (partsFit (e .args .t .frames) (e .args .c)) (c .before .before .before .lengths-of .ensures)) ∙ not-true _ (c .before .if1 .taken))
+
+state-fits-requires : tie.Need-state-fits-requires
+state-fits-requires c κs = search needs
+
+refused-requires-2 : tie.Need-refused-requires-2
+refused-requires-2 c κs = search needs
+
+returns-2 : tie.Need-returns-2
+returns-2 c = let d = c .before .before .before in let e = entry d in block-8 (lent e) (e .args .s) (e .args .v) (passed-7 d) _ (c .refused2 .ensures) (sym (c .before .before .state-fits .ensures) ∙ not-true _ (c .before .if2 .taken))
+
+in-time-requires : tie.Need-in-time-requires
+in-time-requires c κs = search needs
+
+refused-requires-3 : tie.Need-refused-requires-3
+refused-requires-3 c κs = search needs
+
+returns-3 : tie.Need-returns-3
+returns-3 c = let f = c .before .before .before in let e = entry (first f) in block-9 (lent e) (e .args .s) (e .args .v) (passed-7 (first f)) (passed-8 f) _ (c .refused3 .ensures) (sym (c .before .before .in-time .ensures) ∙ not-true _ (c .before .if3 .taken))
+
+sub-play-block : tie.Need-sub-play-block
+sub-play-block c = search needs
+
+part-play-block-start : tie.Need-part-play-block-start
+part-play-block-start c = search needs
+
+part-play-block-end : tie.Need-part-play-block-end
+part-play-block-end c = let d = first (second c) in let e = entry d in in-left (lent e) (e .args .s) (e .args .v) (passed-7 d)
+
+sub-play-block-2 : tie.Need-sub-play-block-2
+sub-play-block-2 c = search needs
+
+part-play-block-start-2 : tie.Need-part-play-block-start-2
+part-play-block-start-2 c = search needs
+
+part-play-block-end-2 : tie.Need-part-play-block-end-2
+part-play-block-end-2 c = let d = first (second (c .before)) in let e = entry d in in-right (lent e) (e .args .s) (e .args .v) (passed-7 d)
+
+play-block-requires : tie.Need-play-block-requires
+play-block-requires c κs = let g = c .before .before in let f = second g in let e = entry (first f) in ready (lent e) (e .args .s) (e .args .v) (sized e) (passed-7 (first f)) (passed-8 f) (passed-9 g)
+
+same-length : tie.Need-same-length
+same-length c = search needs
+
+same-length-2 : tie.Need-same-length-2
+same-length-2 c = search needs
+
+returns-4 : tie.Need-returns-4
+returns-4 c = let g = c .before .before .before .before .before .before .before .before .before in let f = second g in let d = first f in let e = entry d in block-out (lent e) (e .args .s) (e .args .v) (passed-7 d) (passed-8 f) (passed-9 g) _ _ _ (c .before .before .before .before .before .before .play-block .ensures .0) (same-length c) (same-length-2 c)
+
+pub block-spec : {M : Type 1} → statement M
+block-spec =
+    tie.close
+    (tie.spec
+    lengths-of-requires
+    parts-fit-requires
+    refused-requires
+    returns
+    state-fits-requires
+    refused-requires-2
+    returns-2
+    in-time-requires
+    refused-requires-3
+    returns-3
+    sub-play-block
+    part-play-block-start
+    part-play-block-end
+    sub-play-block-2
+    part-play-block-start-2
+    part-play-block-end-2
+    play-block-requires
+    same-length
+    same-length-2
+    returns-4)
