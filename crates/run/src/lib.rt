@@ -1,0 +1,3 @@
+pub struct Nothing {
+    pub n: u32,
+}
