@@ -1,0 +1,4 @@
+// What the lines of the listers' texts mean, on slices of bytes, and the numbers that the listers print.
+pub mod desk;
+pub mod field;
+pub mod print;
