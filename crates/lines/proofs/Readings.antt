@@ -1,19 +1,20 @@
 -- Laws of the readers: f is the slice that a reader looks at, g the field that it is. Assumes nothing.
-use Prim.Native.Nat.{ℕ, zero, suc, _-_, _<_, _≤_}
+use Prim.Native.Nat.{_+_, ℕ, zero, suc, _-_, _<_, _≤_}
 use mathlib.Core.Path.{_≡_, refl, sym, ap, _∙_}
 use mathlib.Core.Bool.{Bool, true, false, cond, _||_}
 use mathlib.Core.List.{List, [], _∷_}
 use native.Mathlib.Omega.{arith}
 use lib.Dec.{eqb, ltb, leb}
 use lib.IntN.{pos, negsuc, _-ℤ_}
-use lib.ListN.{length, getD, take, drop, length-drop}
-use lib.Seq.{take-all}
-use borrow.Author.Tests.{leb-true, lt-leb, le-leb, eq-eqb, ne-eqb}
+use lib.ListN.{length, getD, take, drop, length-drop, drop-of-length-le}
+use lib.Seq.{take-all, drop-cons}
+use native.Mathlib.Numerals.{add-one}
+use borrow.Author.Tests.{leb-true, lt-ltb, le-ltb, lt-leb, le-leb, eq-eqb, ne-eqb}
 use native.Mathlib.Nat.{zero-add}
 use Rattle.program.proofs.Checks.{every-no, after, final}
 use Rattle.program.proofs.Binding.{every-at}
 use Rattle.lines.specs.declared.field.Numeral.{Numeral}
-use Rattle.lines.specs.Fields.{allDigits, valueFrom, isNumeral, numeral, numeralOf, isByte, isNumber, number, isSixDigits, isMinus, minus, isSigned, signed, isSingle}
+use Rattle.lines.specs.Fields.{allDigits, valueFrom, isNumeral, numeral, numeralOf, isByte, isNumber, number, isSixDigits, isMinus, minus, isSigned, signed, isSingle, noSmall, isCapitalSingle}
 
 pub numeral-max : (base max : ℕ) (f : List ℕ) → numeral base max f ≤ max
 unfolding numeral isNumeral
@@ -108,3 +109,30 @@ or-yes x h = rw h refl
 
 pub or-no : {t x r : Bool} → t ≡ false → r ≡ x → r ≡ (t || x)
 or-no h e = rw h e
+
+-- small letters, byte by byte
+module _ (f : List ℕ) (i : ℕ) where
+  pub all-passed : length f ≤ i → noSmall (drop i f) ≡ true
+  unfolding noSmall
+  all-passed h = rw (drop-of-length-le f h) refl
+
+  module _ (h : i < length f) where
+    byte-here : drop i f ≡ getD f i 0 ∷ drop (i + 1) f
+    byte-here = rw (add-one, drop-cons f i 0)
+
+    pub small-here : 97 ≤ getD f i 0 → noSmall (drop i f) ≡ false
+    unfolding noSmall
+    small-here g = rw (byte-here, le-ltb (getD f i 0) 97 g) refl
+
+    pub not-small : getD f i 0 < 97 → noSmall (drop i f) ≡ noSmall (drop (i + 1) f)
+    unfolding noSmall
+    not-small g = rw (byte-here, lt-ltb (getD f i 0) 97 g) refl
+
+module _ (f g : List ℕ) (is : f ≡ g) (t : Bool) (e : t ≡ noSmall f) where
+  pub some-small : t ≡ false → false ≡ isCapitalSingle g
+  unfolding isCapitalSingle
+  some-small h = every-no (noSmall g ∷ isSingle g ∷ []) 0 (ap noSmall (sym is) ∙ sym e ∙ h)
+
+  pub none-small : t ≡ true → {r : Bool} → r ≡ isSingle g → r ≡ isCapitalSingle g
+  unfolding isCapitalSingle
+  none-small h q = after (ap noSmall (sym is) ∙ sym e ∙ h) (final q)

@@ -96,3 +96,12 @@ isSingle f = every (eqb (length f) 8 ∷ isNumeral 16 0xffff_ffff f ∷ [])
 
 abbrev pub single : List ℕ → Float
 single f = floatOf (numeral 16 0xffff_ffff f)
+
+-- no small letter
+unfoldable pub noSmall : List ℕ → Bool
+noSmall [] = true
+noSmall (c ∷ cs) = ltb c 97 && noSmall cs
+
+-- a single in the digits 0-9 and A-F alone
+unfoldable pub isCapitalSingle : List ℕ → Bool
+isCapitalSingle f = every (noSmall f ∷ isSingle f ∷ [])

@@ -2,7 +2,7 @@
 ghost use mathlib.Core.Path.{_≡_};
 ghost use Prim.Native.Nat.{_+_, _-_, _≤_, _<_};
 ghost use lib.ListN.{length, take, drop};
-ghost use Rattle.lines.specs.Fields.{fieldsOf, fieldAt, hasFields, digitOf, numeralOf, isByte, isNumber, isSixDigits, isMinus, isSigned, isSingle};
+ghost use Rattle.lines.specs.Fields.{fieldsOf, fieldAt, hasFields, digitOf, numeralOf, isByte, isNumber, isSixDigits, isMinus, isSigned, isSingle, noSmall, isCapitalSingle};
 ghost use Rattle.lines.specs.Fields as specs;
 use program::region::float_of;
 
@@ -262,4 +262,28 @@ pub fn single(line: &[u8], k: usize) -> f32
     let f = field(line, k);
     let n = read_numeral(f, 16, 0xffff_ffff);
     float_of(n.value as u32)
+}
+
+fn no_small(f: &[u8]) -> bool
+    ensures { λ r. ⌜ r ≡ noSmall (now (f .entry)) ⌝ }
+{
+    let mut i: usize = 0;
+    while i < f.len() {
+        if 97 <= f[i] {
+            return false;
+        }
+        i += 1;
+    }
+    true
+}
+
+// Whether field `k` is eight hexadecimal digits in capitals.
+pub fn is_capital_single(line: &[u8], k: usize) -> bool
+    ensures { λ r. ⌜ r ≡ isCapitalSingle (fieldAt (now (line .entry)) k) ⌝ }
+{
+    let f = field(line, k);
+    if !no_small(f) {
+        return false;
+    }
+    is_single(line, k)
 }
