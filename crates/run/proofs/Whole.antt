@@ -66,12 +66,12 @@ notes-world b (c ∷ xs) = notes-world (note b c) xs ∙ ap (λ w. foldl step w 
 
 ran-steps : {w end : World} {xs : List Call} → Ran w xs end → end ≡ foldl step w xs
 ran-steps over = refl
-ran-steps (made-by {w = w} {cs = xs} rate p r e rest) = ran-steps rest ∙ ap (λ (x : Called). foldl step (afterMake w x) xs) e
+ran-steps (made-by {w = w} {cs = xs} rate p r e rest) = ran-steps rest ∙ ap (λ (x : Called). foldl step (afterMake w x) xs) (e .0)
 ran-steps (blocked-by {w = w} {cs = xs} id l r left right e rest) =
-    ran-steps rest ∙ ap (λ (x : BlockLeft). foldl step (afterCall w id (x .called)) xs) e
+    ran-steps rest ∙ ap (λ (x : BlockLeft). foldl step (afterCall w id (x .called)) xs) (e .0)
 ran-steps (asked-by id k r e rest) = ran-steps rest
-ran-steps (reset-by {w = w} {cs = xs} id r e rest) = ran-steps rest ∙ ap (λ (x : Called). foldl step (afterCall w id x) xs) e
-ran-steps (closed-by {w = w} {cs = xs} id r e rest) = ran-steps rest ∙ ap (λ (x : Closed). foldl step (afterClose w x) xs) e
+ran-steps (reset-by {w = w} {cs = xs} id r e rest) = ran-steps rest ∙ ap (λ (x : Called). foldl step (afterCall w id x) xs) (e .0)
+ran-steps (closed-by {w = w} {cs = xs} id r e rest) = ran-steps rest ∙ ap (λ (x : Closed). foldl step (afterClose w x) xs) (e .0)
 
 pub port-is : (xs : List Call) (w : World) → Ran fresh xs w → w ≡ account xs .world
 unfolding account
@@ -280,20 +280,20 @@ along-run : (b : Book) → Steady b → {w end : World} {xs : List Call} (r : Ra
 along-run b h over q = _
 along-run b h (made-by {w = w} rate p r e rest) q =
     let c = make rate p in
-    let f : afterMake w r ≡ step w c = ap (afterMake w) e in
+    let f : afterMake w r ≡ step w c = ap (afterMake w) (e .0) in
     (between-at b h c w (afterMake w r) q f, along-run (note b c) (note-steady b h c) rest (note-after b c w (afterMake w r) q f))
 along-run b h (blocked-by {w = w} id l r left right e rest) q =
     let c = block id l in
-    let f : afterCall w id r ≡ step w c = ap (λ (x : BlockLeft). afterCall w id (x .called)) e in
+    let f : afterCall w id r ≡ step w c = ap (λ (x : BlockLeft). afterCall w id (x .called)) (e .0) in
     (between-at b h c w (afterCall w id r) q f, along-run (note b c) (note-steady b h c) rest (note-after b c w (afterCall w id r) q f))
 along-run b h (asked-by {w = w} id k r e rest) q = (between-at b h (ask id k) w w q refl, along-run b h rest q)
 along-run b h (reset-by {w = w} id r e rest) q =
     let c = reset id in
-    let f : afterCall w id r ≡ step w c = ap (afterCall w id) e in
+    let f : afterCall w id r ≡ step w c = ap (afterCall w id) (e .0) in
     (between-at b h c w (afterCall w id r) q f, along-run (note b c) (note-steady b h c) rest (note-after b c w (afterCall w id r) q f))
 along-run b h (closed-by {w = w} id r e rest) q =
     let c = close id in
-    let f : afterClose w r ≡ step w c = ap (afterClose w) e in
+    let f : afterClose w r ≡ step w c = ap (afterClose w) (e .0) in
     (between-at b h c w (afterClose w r) q f, along-run (note b c) (note-steady b h c) rest (note-after b c w (afterClose w r) q f))
 
 -- for every list of calls, and every run of the port over it from a fresh session

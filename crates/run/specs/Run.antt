@@ -19,7 +19,8 @@ use Rattle.player.specs.declared.Player.{Player}
 use Rattle.players.specs.Seats.{sounding, slotNumbers}
 use Rattle.events.specs.declared.SampleVoice.{SampleVoice}
 use Rattle.block.specs.Inputs.{Lent, gateAt}
-use Rattle.voice.specs.Calls.{Program, BlockLeft, made, freshVoice, blocked, asked, wasReset, wasClosed, blockAnswer, makeAnswer, endAnswer, ifDone}
+use Rattle.voice.specs.Numbers.{makeNumber, blockNumber, askNumber, endNumber}
+use Rattle.voice.specs.Calls.{numberOf, Program, BlockLeft, made, freshVoice, blocked, asked, wasReset, wasClosed, blockAnswer, makeAnswer, endAnswer, ifDone}
 use Rattle.voice.specs.declared.Called.{Called}
 use Rattle.voice.specs.declared.Asked.{Asked}
 use Rattle.voice.specs.declared.Closed.{Closed}
@@ -64,16 +65,21 @@ afterClose w r = record { session = r .session; voices = w .voices }
 -- function's promise; nobody else writes them.
 pub data Ran : World → List Call → World → Type 0 where
   over : {w : World} → Ran w [] w
-  made-by : {w end : World} {cs : List Call} (rate : Float) (b : BoundProgram) (r : Called) → r ≡ made rate b (w .session)
+  made-by : {w end : World} {cs : List Call} (rate : Float) (b : BoundProgram) (r : Called)
+      → (r ≡ made rate b (w .session)) × (numberOf (r .answer) ≡ makeNumber rate (w .session))
       → Ran (afterMake w r) cs end → Ran w (make rate b ∷ cs) end
   blocked-by : {w end : World} {cs : List Call} (id : ℕ) (l : Lent) (r : Called) (left right : List Float)
-      → _≡_ {A = BlockLeft} (record { called = r; left = left; right = right }) (blocked l (w .session) (w .voices id))
+      → (_≡_ {A = BlockLeft} (record { called = r; left = left; right = right }) (blocked l (w .session) (w .voices id)))
+      × (numberOf (r .answer) ≡ blockNumber l (w .session) (w .voices id))
       → Ran (afterCall w id r) cs end → Ran w (block id l ∷ cs) end
-  asked-by : {w end : World} {cs : List Call} (id : ℕ) (k : Program) (r : Asked) → r ≡ asked k (w .session) (w .voices id)
+  asked-by : {w end : World} {cs : List Call} (id : ℕ) (k : Program) (r : Asked)
+      → (r ≡ asked k (w .session) (w .voices id)) × (numberOf (r .answer) ≡ askNumber k (w .session) (w .voices id))
       → Ran w cs end → Ran w (ask id k ∷ cs) end
-  reset-by : {w end : World} {cs : List Call} (id : ℕ) (r : Called) → r ≡ wasReset (w .session) (w .voices id)
+  reset-by : {w end : World} {cs : List Call} (id : ℕ) (r : Called)
+      → (r ≡ wasReset (w .session) (w .voices id)) × (numberOf (r .answer) ≡ endNumber (w .session) (w .voices id))
       → Ran (afterCall w id r) cs end → Ran w (reset id ∷ cs) end
-  closed-by : {w end : World} {cs : List Call} (id : ℕ) (r : Closed) → r ≡ wasClosed (w .session) (w .voices id)
+  closed-by : {w end : World} {cs : List Call} (id : ℕ) (r : Closed)
+      → (r ≡ wasClosed (w .session) (w .voices id)) × (numberOf (r .answer) ≡ endNumber (w .session) (w .voices id))
       → Ran (afterClose w r) cs end → Ran w (close id ∷ cs) end
 
 -- ---- the run of the definitions, from the calls and what each is lent

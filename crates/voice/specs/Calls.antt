@@ -65,7 +65,7 @@ freshVoice id rate b = record {
 unfoldable pub makeAnswer : Float → Session → Answer
 makeAnswer rate s = pick (rateFits rate) (pick (noPlace s) TooManyVoices (pick (idLeft s) Done TooLate)) BadRate
 
--- a call that is turned back hands out a voice with the id 0, which no session has live
+-- a call that is turned back hands out a voice with the id 0, which no session grown from a fresh one gives: ids count from 1
 unfoldable pub made : Float → BoundProgram → Session → Called
 made rate b s =
     let a = makeAnswer rate s in

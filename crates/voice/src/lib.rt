@@ -1,10 +1,13 @@
 // The public calls of a voice: making, a block, asking whether it is finished, reset and close. None has a precondition: each gives its
-// result or the refusal that its inputs call for, and a refused call changes nothing.
+// result or the refusal that its inputs call for, and a refused call changes nothing. A contract is one equation for all that the call
+// leaves, and beside it the number of its answer: 01's first cause that holds, 0 where none does.
 pub mod check;
 
 ghost use mathlib.Core.Path.{_≡_};
 ghost use lib.ListN.{length};
-ghost use Rattle.voice.specs.Calls.{called, freshVoice, made, blocked, mayRelease, isFinished, asked, silenced, wasReset, wasClosed};
+ghost use Rattle.block.specs.Inputs.{Lent};
+ghost use Rattle.voice.specs.Calls.{numberOf, called, freshVoice, made, blocked, mayRelease, isFinished, Program, asked, silenced, wasReset, wasClosed};
+ghost use Rattle.voice.specs.Numbers.{makeNumber, blockNumber, askNumber, endNumber};
 use block::BlockTime;
 use block::Connected;
 use block::play_block;
@@ -95,9 +98,10 @@ fn fresh_voice(id: u64, rate: f32, program: BoundProgram) -> SampleVoice
     }
 }
 
-// A new voice of the program. Turned back, the voice handed out has the id 0, which no session has live.
+// A new voice of the program. Turned back, the voice handed out has the id 0, which no session grown from a fresh one gives: ids
+// count from 1.
 pub fn make(s: Session, rate: f32, program: BoundProgram) -> Called
-    ensures { λ r. ⌜ r ≡ made rate program s ⌝ }
+    ensures { λ r. ⌜ (r ≡ made rate program s) × (numberOf (r .answer) ≡ makeNumber rate s) ⌝ }
 {
     if !rate_fits(rate) {
         let voice = fresh_voice(0, rate, program);
@@ -180,25 +184,24 @@ pub fn block(
     left: &mut [f32],
     right: &mut [f32],
 ) -> Called
-    ensures { λ r. ⌜ (record { called = r; left = now (left .exit); right = now (right .exit) }) ≡ blocked
-        (record {
-          time = t;
-          connected = c;
-          words = now (words .entry);
-          samples = now (samples .entry);
-          pcm = now (pcm .entry);
-          table = now (table .entry);
-          freq = now (freq .entry);
-          gate = now (gate .entry);
-          vel = now (vel .entry);
-          amp = now (amp .entry);
-          seed = now (seed .entry);
-          bend = now (bend .entry);
-          quality = now (quality .entry);
-          left = now (left .entry);
-          right = now (right .entry);
-        })
-        s v ⌝ }
+    ensures { λ r. ⌜ (let l : Lent = record {
+      time = t;
+      connected = c;
+      words = now (words .entry);
+      samples = now (samples .entry);
+      pcm = now (pcm .entry);
+      table = now (table .entry);
+      freq = now (freq .entry);
+      gate = now (gate .entry);
+      vel = now (vel .entry);
+      amp = now (amp .entry);
+      seed = now (seed .entry);
+      bend = now (bend .entry);
+      quality = now (quality .entry);
+      left = now (left .entry);
+      right = now (right .entry);
+    } in
+        ((record { called = r; left = now (left .exit); right = now (right .exit) }) ≡ blocked l s v) × (numberOf (r .answer) ≡ blockNumber l s v)) ⌝ }
 {
     let n = t.frames;
     let lengths = lengths_of(
@@ -290,7 +293,8 @@ pub fn is_finished(
     pcm: &[f32],
     table: &[f32],
 ) -> Asked
-    ensures { λ r. ⌜ r ≡ asked (record { words = now (words .entry); samples = now (samples .entry); pcm = now (pcm .entry); table = now (table .entry) }) s v ⌝ }
+    ensures { λ r. ⌜ (let k : Program = record { words = now (words .entry); samples = now (samples .entry); pcm = now (pcm .entry); table = now (table .entry) } in
+        (r ≡ asked k s v) × (numberOf (r .answer) ≡ askNumber k s v)) ⌝ }
 {
     if !state_fits(s, v, words, samples, pcm.len(), table.len()) {
         return Asked {
@@ -331,7 +335,7 @@ fn silence(v: SampleVoice) -> SampleVoice
 
 // All of the voice's notes end at once; it stays live.
 pub fn reset(s: Session, v: SampleVoice) -> Called
-    ensures { λ r. ⌜ r ≡ wasReset s v ⌝ }
+    ensures { λ r. ⌜ (r ≡ wasReset s v) × (numberOf (r .answer) ≡ endNumber s v) ⌝ }
 {
     if !well_formed(s, v) {
         return refused(Answer::BadState, s, v);
@@ -347,7 +351,7 @@ pub fn reset(s: Session, v: SampleVoice) -> Called
 
 // The voice ends, and its place is free for another.
 pub fn close(s: Session, v: SampleVoice) -> Closed
-    ensures { λ r. ⌜ r ≡ wasClosed s v ⌝ }
+    ensures { λ r. ⌜ (r ≡ wasClosed s v) × (numberOf (r .answer) ≡ endNumber s v) ⌝ }
 {
     if !well_formed(s, v) {
         return Closed {

@@ -9,6 +9,7 @@ use Rattle.block.specs.Inputs.{Lent}
 use Rattle.voice.specs.Tests.{partsFit, lengthsOf, stateFits, inTime}
 use Rattle.voice.proofs.Refusals.{block-7, block-8, block-9}
 use Rattle.voice.proofs.Passed.{in-left, in-right, ready, block-out}
+use Rattle.voice.proofs.Numbers.{block-promise}
 use Rattle.voice.proofs.block.Statement.{statement}
 use Rattle.voice.proofs.block.Tie as tie
 
@@ -65,7 +66,7 @@ refused-requires : tie.Need-refused-requires
 refused-requires c κs = search needs
 
 returns : tie.Need-returns
-returns c = let e = c .before .before .before .before .before .before .before .before .before .before .before .before .before .before .before .before .before in block-7 (lent e) (e .args .s) (e .args .v) _ (c .refused .ensures) (sym (c .before .before .parts-fit .ensures ∙ ap (partsFit (e .args .t .frames) (e .args .c)) (c .before .before .before .lengths-of .ensures)) ∙ not-true _ (c .before .if1 .taken))
+returns c = let e = c .before .before .before .before .before .before .before .before .before .before .before .before .before .before .before .before .before in block-promise (lent e) (e .args .s) (e .args .v) (block-7 (lent e) (e .args .s) (e .args .v) _ (c .refused .ensures) (sym (c .before .before .parts-fit .ensures ∙ ap (partsFit (e .args .t .frames) (e .args .c)) (c .before .before .before .lengths-of .ensures)) ∙ not-true _ (c .before .if1 .taken)))
 
 state-fits-requires : tie.Need-state-fits-requires
 state-fits-requires c κs = search needs
@@ -74,7 +75,7 @@ refused-requires-2 : tie.Need-refused-requires-2
 refused-requires-2 c κs = search needs
 
 returns-2 : tie.Need-returns-2
-returns-2 c = let d = c .before .before .before in let e = entry d in block-8 (lent e) (e .args .s) (e .args .v) (passed-7 d) _ (c .refused2 .ensures) (sym (c .before .before .state-fits .ensures) ∙ not-true _ (c .before .if2 .taken))
+returns-2 c = let d = c .before .before .before in let e = entry d in block-promise (lent e) (e .args .s) (e .args .v) (block-8 (lent e) (e .args .s) (e .args .v) (passed-7 d) _ (c .refused2 .ensures) (sym (c .before .before .state-fits .ensures) ∙ not-true _ (c .before .if2 .taken)))
 
 in-time-requires : tie.Need-in-time-requires
 in-time-requires c κs = search needs
@@ -83,7 +84,7 @@ refused-requires-3 : tie.Need-refused-requires-3
 refused-requires-3 c κs = search needs
 
 returns-3 : tie.Need-returns-3
-returns-3 c = let f = c .before .before .before in let e = entry (first f) in block-9 (lent e) (e .args .s) (e .args .v) (passed-7 (first f)) (passed-8 f) _ (c .refused3 .ensures) (sym (c .before .before .in-time .ensures) ∙ not-true _ (c .before .if3 .taken))
+returns-3 c = let f = c .before .before .before in let e = entry (first f) in block-promise (lent e) (e .args .s) (e .args .v) (block-9 (lent e) (e .args .s) (e .args .v) (passed-7 (first f)) (passed-8 f) _ (c .refused3 .ensures) (sym (c .before .before .in-time .ensures) ∙ not-true _ (c .before .if3 .taken)))
 
 sub-play-block : tie.Need-sub-play-block
 sub-play-block c = search needs
@@ -113,7 +114,7 @@ same-length-2 : tie.Need-same-length-2
 same-length-2 c = search needs
 
 returns-4 : tie.Need-returns-4
-returns-4 c = let g = c .before .before .before .before .before .before .before .before .before in let f = second g in let d = first f in let e = entry d in block-out (lent e) (e .args .s) (e .args .v) (passed-7 d) (passed-8 f) (passed-9 g) _ _ _ (c .before .before .before .before .before .before .play-block .ensures .0) (same-length c) (same-length-2 c)
+returns-4 c = let g = c .before .before .before .before .before .before .before .before .before in let f = second g in let d = first f in let e = entry d in block-promise (lent e) (e .args .s) (e .args .v) (block-out (lent e) (e .args .s) (e .args .v) (passed-7 d) (passed-8 f) (passed-9 g) _ _ _ (c .before .before .before .before .before .before .play-block .ensures .0) (same-length c) (same-length-2 c))
 
 pub block-spec : {M : Type 1} → statement M
 block-spec =
