@@ -2,3 +2,5 @@ pub mod Splitting
 pub mod Numerals
 pub mod Readings
 pub mod Printing
+pub mod Signs
+pub mod Tables

@@ -105,3 +105,8 @@ noSmall (c ∷ cs) = ltb c 97 && noSmall cs
 -- a single in the digits 0-9 and A-F alone
 unfoldable pub isCapitalSingle : List ℕ → Bool
 isCapitalSingle f = every (noSmall f ∷ isSingle f ∷ [])
+
+-- the word of a signed number, in two's complement
+unfoldable pub wordOf : ℤ → ℕ
+wordOf (pos n) = n
+wordOf (negsuc n) = 0xffff_ffff - n

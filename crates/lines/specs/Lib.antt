@@ -1,3 +1,5 @@
 pub mod Fields
 pub mod Desk
+pub mod Rows
+pub mod Block
 pub mod Print

@@ -53,14 +53,14 @@ pub enum DeskLine {
     Close(u64),
 }
 
-fn is_none(line: &[u8], k: usize) -> bool
+pub(crate) fn is_none(line: &[u8], k: usize) -> bool
     ensures { λ r. ⌜ r ≡ isNone (fieldAt (now (line .entry)) k) ⌝ }
 {
     is_byte(line, k, b'-')
 }
 
 // A number or `-`.
-fn is_maybe(line: &[u8], k: usize) -> bool
+pub(crate) fn is_maybe(line: &[u8], k: usize) -> bool
     ensures { λ r. ⌜ r ≡ isMaybe (fieldAt (now (line .entry)) k) ⌝ }
 {
     if is_none(line, k) {
@@ -122,7 +122,7 @@ fn seq(line: &[u8], j: usize, k: usize) -> Seq
     Seq::InTurn { length, position }
 }
 
-fn sample_of(line: &[u8], k: usize) -> u32
+pub(crate) fn sample_of(line: &[u8], k: usize) -> u32
     ensures { λ r. ⌜ r ≡ sampleOf (fieldAt (now (line .entry)) k) ⌝ }
 {
     if is_none(line, k) {

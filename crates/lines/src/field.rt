@@ -2,7 +2,7 @@
 ghost use mathlib.Core.Path.{_≡_};
 ghost use Prim.Native.Nat.{_+_, _-_, _≤_, _<_};
 ghost use lib.ListN.{length, take, drop};
-ghost use Rattle.lines.specs.Fields.{fieldsOf, fieldAt, hasFields, digitOf, numeralOf, isByte, isNumber, isSixDigits, isMinus, isSigned, isSingle, noSmall, isCapitalSingle};
+ghost use Rattle.lines.specs.Fields.{fieldsOf, fieldAt, hasFields, digitOf, numeralOf, isByte, isNumber, isSixDigits, isMinus, isSigned, isSingle, noSmall, isCapitalSingle, wordOf};
 ghost use Rattle.lines.specs.Fields as specs;
 use program::region::float_of;
 
@@ -286,4 +286,14 @@ pub fn is_capital_single(line: &[u8], k: usize) -> bool
         return false;
     }
     is_single(line, k)
+}
+
+// The word of a signed number, in two's complement.
+pub fn word_of(n: i32) -> u32
+    ensures { λ r. ⌜ r ≡ wordOf n ⌝ }
+{
+    if n < 0 {
+        return 0xffff_ffff - ((-1 - n) as u32);
+    }
+    n as u32
 }

@@ -1,0 +1,162 @@
+// From the first voice on: a line at a time, and what each step prints.
+ghost use Prim.Native.Nat.{_<_};
+use super::calls::Call;
+use super::calls::INPUT;
+use super::calls::NONE;
+use super::calls::VOICE;
+use super::calls::blank_voice;
+use super::calls::call_of;
+use super::calls::do_call;
+use super::calls::id_after;
+use super::calls::is_step;
+use super::inputs::connected_after;
+use super::inputs::set_input;
+use super::inputs::wire_of;
+use super::show::put_step;
+use block::Connected;
+use events::SampleVoice;
+use lines::block::Line;
+use lines::block::read_block_line;
+use lister::feed::Feed;
+use lister::feed::next_line;
+use lister::places::place_named;
+use lister::places::place_of;
+use lister::show::put_refusal;
+use lister::text::flush;
+use program::bind::BoundProgram;
+use session::Session;
+use session::fresh_session;
+
+// No text has more lines.
+pub const LAST: u64 = 0x8000_0000_0000_0000;
+
+// The first voice's line, the inputs that are connected there, and the program that it bound.
+pub struct Begun {
+    pub feed: Feed,
+    pub line: u64,
+    pub rate: f32,
+    pub connected: Connected,
+    pub regions: u64,
+    pub program: BoundProgram,
+}
+
+// The place that a line is about: a free one for a new voice, that of its voice for a call; 16 where there is none.
+fn place_for(c: Call, ids: &[u64]) -> usize {
+    if c.kind == VOICE {
+        return place_of(ids, 0);
+    }
+    place_named(ids, c.voice)
+}
+
+// 10: a line that cannot be read here, or that names no live voice.
+fn is_lost(c: Call, k: usize) -> bool {
+    if c.kind == NONE {
+        return true;
+    }
+    if is_step(c) {
+        return 16 <= k;
+    }
+    false
+}
+
+// A place that there is. A new voice that finds none is turned back.
+fn seat(k: usize) -> usize
+    ensures { λ r. ⌜ r < 16 ⌝ }
+{
+    if k < 16 { k } else { 0 }
+}
+
+fn step_after(c: Call, step: u64) -> u64 {
+    if !is_step(c) {
+        return step;
+    }
+    step % LAST + 1
+}
+
+// What a line prints: its refusal, or what its step shows.
+fn put_line(
+    out: &mut [u8],
+    at: usize,
+    c: Call,
+    line: u64,
+    step: u64,
+    number: u64,
+    finished: bool,
+    s: Session,
+    v: SampleVoice,
+    regions: u64,
+    left: &[f32],
+    right: &[f32],
+) -> usize {
+    if number != 0 {
+        return put_refusal(out, at, line, number);
+    }
+    if !is_step(c) {
+        return at;
+    }
+    put_step(out, at, c, step, finished, s, v, regions, left, right)
+}
+
+// The line of the first voice, and every line after it.
+pub fn play(
+    buf: &mut [u8],
+    g: Begun,
+    words: &[u32],
+    samples: &[u32],
+    pcm: &[f32],
+    table: &[f32],
+    inputs: &mut [f32; 896],
+) {
+    let mut out = io::large_buffer();
+    let mut at: usize = 0;
+    let program = g.program;
+    let mut session = fresh_session();
+    let blank = blank_voice(session, program);
+    let mut voices = [blank; 16];
+    let mut ids = [0u64; 16];
+    let mut feed = g.feed;
+    let mut connected = g.connected;
+    let mut line = g.line;
+    let mut step: u64 = 0;
+    let mut d = Line::Voice { rate: g.rate };
+    while line < LAST {
+        let c = call_of(d);
+        let k = place_for(c, &ids);
+        if is_lost(c, k) {
+            let m = put_refusal(&mut out, at, line, 10);
+            flush(&out, m);
+            return;
+        }
+        let j = seat(k);
+        let v = voices[j];
+        let mut left = [0.0f32; 128];
+        let mut right = [0.0f32; 128];
+        let r = do_call(
+            session, v, c, connected, program, words, samples, pcm, table, inputs, &mut left, &mut right,
+        );
+        let number = r.number;
+        let w = r.voice;
+        if number == 0 {
+            session = r.session;
+            voices[j] = w;
+            ids[j] = id_after(c, ids[j], w.voice);
+        }
+        step = step_after(c, step);
+        at = put_line(
+            &mut out, at, c, line, step, number, r.finished, session, w, g.regions, &left, &right,
+        );
+        let x = wire_of(d);
+        set_input(inputs, x);
+        connected = connected_after(connected, x);
+        let t = next_line(buf, feed);
+        if t.over {
+            flush(&out, at);
+            return;
+        }
+        let a = t.from;
+        let e = t.to;
+        d = read_block_line(&buf[a..e]);
+        feed = t.feed;
+        line += 1;
+    }
+}
