@@ -52,20 +52,25 @@ fn add_region(line: &[u8], words: &mut [u32], n: usize) -> usize
     n + 1
 }
 
+fn put_word(w: &mut [u32], at: usize, v: u32) {
+    if at < w.len() {
+        w[at] = v;
+    }
+}
+
 // A velocity point more. A count that binding refuses is kept, and says no more than that.
 fn put_point(w: &mut [u32], velocity: u8, gain: f32)
     requires { ⌜ length (now w) ≡ 392 ⌝ }
 {
     let n = w[29];
-    if 128 < n {
-        return;
-    }
     if n < 128 {
         let k = n as usize;
-        w[136 + k] = velocity as u32;
-        w[264 + k] = bits_f32(gain);
+        put_word(w, 136 + k, velocity as u32);
+        put_word(w, 264 + k, bits_f32(gain));
+        put_word(w, 29, n + 1);
+        return;
     }
-    w[29] = n + 1;
+    w[29] = 129;
 }
 
 // A filter more, likewise.
@@ -73,14 +78,13 @@ fn add_filter(line: &[u8], w: &mut [u32])
     requires { ⌜ length (now w) ≡ 392 ⌝ }
 {
     let n = w[27];
-    if 6 < n {
-        return;
-    }
     if n < 6 {
         let at = 58 + 7 * (n as usize);
         put_filter(line, &mut w[at..at + 7]);
+        w[27] = n + 1;
+        return;
     }
-    w[27] = n + 1;
+    w[27] = 7;
 }
 
 // A band more, likewise.
@@ -88,14 +92,13 @@ fn add_band(line: &[u8], w: &mut [u32])
     requires { ⌜ length (now w) ≡ 392 ⌝ }
 {
     let n = w[28];
-    if 6 < n {
-        return;
-    }
     if n < 6 {
         let at = 100 + 6 * (n as usize);
         put_band(line, &mut w[at..at + 6]);
+        w[28] = n + 1;
+        return;
     }
-    w[28] = n + 1;
+    w[28] = 7;
 }
 
 // A C, F or Q line's part for the last region.

@@ -1,6 +1,6 @@
 // The calls on voices that lines ask for.
-ghost use Prim.Native.Nat.{_<_};
 ghost use mathlib.Core.Path.{_≡_};
+ghost use lib.ListN.{length};
 ghost use Rattle.voice.specs.Calls.{numberOf};
 use block::BlockTime;
 use block::Connected;
@@ -52,15 +52,20 @@ fn plain(kind: u32, voice: u64) -> Call {
     }
 }
 
+// A new voice.
+pub fn voice_call(rate: f32) -> Call {
+    Call {
+        kind: VOICE,
+        voice: 0,
+        rate,
+        offset: 0,
+        frames: 0,
+    }
+}
+
 pub fn call_of(d: Line) -> Call {
     match d {
-        Line::Voice { rate } => Call {
-            kind: VOICE,
-            voice: 0,
-            rate,
-            offset: 0,
-            frames: 0,
-        },
+        Line::Voice { rate } => voice_call(rate),
         Line::Block(b) => Call {
             kind: BLOCK,
             voice: b.voice,
@@ -103,7 +108,7 @@ fn number_of(a: Answer) -> u64
     }
 }
 
-fn did(number: u64, finished: bool, s: Session, v: SampleVoice) -> Did {
+fn result(number: u64, finished: bool, s: Session, v: SampleVoice) -> Did {
     Did {
         number,
         finished,
@@ -116,7 +121,20 @@ fn numbered(c: Called) -> Did {
     let answer = c.answer;
     let session = c.session;
     let voice = c.voice;
-    did(number_of(answer), false, session, voice)
+    result(number_of(answer), false, session, voice)
+}
+
+// A new voice takes the place of v, where it is made.
+fn make_call(s: Session, v: SampleVoice, rate: f32, program: BoundProgram) -> Did {
+    let c = make(s, rate, program);
+    let answer = c.answer;
+    let number = number_of(answer);
+    if number != 0 {
+        return result(number, false, s, v);
+    }
+    let session = c.session;
+    let voice = c.voice;
+    result(0, false, session, voice)
 }
 
 fn block_call(
@@ -128,10 +146,12 @@ fn block_call(
     samples: &[u32],
     pcm: &[f32],
     table: &[f32],
-    inputs: &[f32; 896],
+    inputs: &[f32],
     left: &mut [f32],
     right: &mut [f32],
-) -> Did {
+) -> Did
+    requires { ⌜ length (now inputs) ≡ 896 ⌝ }
+{
     let t = BlockTime {
         frames: c.frames as usize,
         offset: c.offset,
@@ -167,14 +187,14 @@ fn ask_call(
 ) -> Did {
     let a = is_finished(s, v, words, samples, pcm, table);
     let answer = a.answer;
-    did(number_of(answer), a.finished, s, v)
+    result(number_of(answer), a.finished, s, v)
 }
 
 fn close_call(s: Session, v: SampleVoice) -> Did {
     let c = close(s, v);
     let answer = c.answer;
     let session = c.session;
-    did(number_of(answer), false, session, v)
+    result(number_of(answer), false, session, v)
 }
 
 // The call of a line on the voice v.
@@ -188,13 +208,15 @@ pub fn do_call(
     samples: &[u32],
     pcm: &[f32],
     table: &[f32],
-    inputs: &[f32; 896],
+    inputs: &[f32],
     left: &mut [f32],
     right: &mut [f32],
-) -> Did {
+) -> Did
+    requires { ⌜ length (now inputs) ≡ 896 ⌝ }
+{
     let kind = c.kind;
     if kind == VOICE {
-        return numbered(make(s, c.rate, program));
+        return make_call(s, v, c.rate, program);
     }
     if kind == BLOCK {
         return block_call(
@@ -210,7 +232,7 @@ pub fn do_call(
     if kind == CLOSE {
         return close_call(s, v);
     }
-    did(0, false, s, v)
+    result(0, false, s, v)
 }
 
 // Whether the line counts as a step.
@@ -219,7 +241,10 @@ pub fn is_step(c: Call) -> bool {
 }
 
 // The id at a line's place after it.
-pub fn id_after(c: Call, was: u64, made: u64) -> u64 {
+pub fn id_after(c: Call, number: u64, was: u64, made: u64) -> u64 {
+    if number != 0 {
+        return was;
+    }
     if c.kind == CLOSE {
         return 0;
     }

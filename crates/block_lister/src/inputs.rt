@@ -11,7 +11,7 @@ pub struct Wire {
     pub on: bool,
 }
 
-fn no_wire() -> Wire {
+pub fn no_wire() -> Wire {
     Wire {
         named: false,
         input: 0,
@@ -81,7 +81,7 @@ fn switched(was: bool, w: Wire, input: u32) -> bool {
     w.on
 }
 
-pub fn connected_after(c: Connected, w: Wire) -> Connected {
+fn connected_after(c: Connected, w: Wire) -> Connected {
     Connected {
         freq: switched(c.freq, w, 0),
         gate: switched(c.gate, w, 1),
@@ -102,7 +102,7 @@ fn fill_part(part: &mut [f32], value: f32) {
 }
 
 // From the frame to the last of the input.
-pub fn set_input(inputs: &mut [f32], w: Wire) {
+fn set_input(inputs: &mut [f32], w: Wire) {
     if !w.named {
         return;
     }
@@ -118,4 +118,10 @@ pub fn set_input(inputs: &mut [f32], w: Wire) {
     if end <= inputs.len() {
         fill_part(&mut inputs[from..end], w.value);
     }
+}
+
+// What a line does to the inputs, and which are connected then.
+pub fn connect(inputs: &mut [f32], was: Connected, w: Wire) -> Connected {
+    set_input(inputs, w);
+    connected_after(was, w)
 }

@@ -7,8 +7,8 @@ mod play;
 mod setup;
 mod show;
 
+ghost use mathlib.Core.Path.{_≡_};
 ghost use lib.ListN.{length};
-ghost use Rattle.block_lister.specs.Made.{MadeOk};
 use program::bind::Bound;
 use program::bind::bind;
 use lister::show::put_refusal;
@@ -43,8 +43,10 @@ fn start(
     samples: &[u32],
     pcm: &[f32],
     table: &[f32],
-    inputs: &mut [f32; 896],
-) {
+    inputs: &mut [f32],
+)
+    requires { ⌜ length (now inputs) ≡ 896 ⌝ }
+{
     let line = u.line;
     let feed = u.feed;
     let connected = u.connected;
@@ -77,8 +79,10 @@ fn go_on(
     samples: &[u32],
     pcm: &[f32],
     table: &[f32],
-    inputs: &mut [f32; 896],
-) {
+    inputs: &mut [f32],
+)
+    requires { ⌜ length (now inputs) ≡ 896 ⌝ }
+{
     let first = u.first;
     match first {
         First::Voice(rate) => start(buf, u, rate, words, samples, pcm, table, inputs),

@@ -1,7 +1,8 @@
 // From the first voice on: a line at a time, and what each step prints.
 ghost use Prim.Native.Nat.{_<_};
+ghost use mathlib.Core.Path.{_≡_};
+ghost use lib.ListN.{length};
 use super::calls::Call;
-use super::calls::INPUT;
 use super::calls::NONE;
 use super::calls::VOICE;
 use super::calls::blank_voice;
@@ -9,13 +10,14 @@ use super::calls::call_of;
 use super::calls::do_call;
 use super::calls::id_after;
 use super::calls::is_step;
-use super::inputs::connected_after;
-use super::inputs::set_input;
+use super::calls::voice_call;
+use super::inputs::Wire;
+use super::inputs::connect;
+use super::inputs::no_wire;
 use super::inputs::wire_of;
 use super::show::put_step;
 use block::Connected;
 use events::SampleVoice;
-use lines::block::Line;
 use lines::block::read_block_line;
 use lister::feed::Feed;
 use lister::feed::next_line;
@@ -97,6 +99,30 @@ fn put_line(
     put_step(out, at, c, step, finished, s, v, regions, left, right)
 }
 
+// What the next line asks for; nothing where the input is over.
+struct Read {
+    over: bool,
+    call: Call,
+    wire: Wire,
+    feed: Feed,
+}
+
+fn read_line(buf: &mut [u8], f: Feed) -> Read {
+    let t = next_line(buf, f);
+    let a = t.from;
+    let e = t.to;
+    let d = read_block_line(&buf[a..e]);
+    let call = call_of(d);
+    let wire = wire_of(d);
+    let feed = t.feed;
+    Read {
+        over: t.over,
+        call,
+        wire,
+        feed,
+    }
+}
+
 // The line of the first voice, and every line after it.
 pub fn play(
     buf: &mut [u8],
@@ -105,8 +131,10 @@ pub fn play(
     samples: &[u32],
     pcm: &[f32],
     table: &[f32],
-    inputs: &mut [f32; 896],
-) {
+    inputs: &mut [f32],
+)
+    requires { ⌜ length (now inputs) ≡ 896 ⌝ }
+{
     let mut out = io::large_buffer();
     let mut at: usize = 0;
     let program = g.program;
@@ -118,9 +146,9 @@ pub fn play(
     let mut connected = g.connected;
     let mut line = g.line;
     let mut step: u64 = 0;
-    let mut d = Line::Voice { rate: g.rate };
+    let mut c = voice_call(g.rate);
+    let mut wire = no_wire();
     while line < LAST {
-        let c = call_of(d);
         let k = place_for(c, &ids);
         if is_lost(c, k) {
             let m = put_refusal(&mut out, at, line, 10);
@@ -134,28 +162,22 @@ pub fn play(
         let r = do_call(
             session, v, c, connected, program, words, samples, pcm, table, inputs, &mut left, &mut right,
         );
-        let number = r.number;
+        session = r.session;
         let w = r.voice;
-        if number == 0 {
-            session = r.session;
-            voices[j] = w;
-            ids[j] = id_after(c, ids[j], w.voice);
-        }
+        voices[j] = w;
+        ids[j] = id_after(c, r.number, ids[j], w.voice);
         step = step_after(c, step);
         at = put_line(
-            &mut out, at, c, line, step, number, r.finished, session, w, g.regions, &left, &right,
+            &mut out, at, c, line, step, r.number, r.finished, session, w, g.regions, &left, &right,
         );
-        let x = wire_of(d);
-        set_input(inputs, x);
-        connected = connected_after(connected, x);
-        let t = next_line(buf, feed);
+        connected = connect(inputs, connected, wire);
+        let t = read_line(buf, feed);
         if t.over {
             flush(&out, at);
             return;
         }
-        let a = t.from;
-        let e = t.to;
-        d = read_block_line(&buf[a..e]);
+        c = t.call;
+        wire = t.wire;
         feed = t.feed;
         line += 1;
     }

@@ -3,9 +3,8 @@ ghost use Prim.Native.Nat.{_≤_, _<_, _+_};
 ghost use mathlib.Core.Path.{_≡_};
 ghost use lib.ListN.{length};
 ghost use Rattle.block_lister.specs.Made.{MadeOk};
-use super::inputs::connected_after;
+use super::inputs::connect;
 use super::inputs::none_connected;
-use super::inputs::set_input;
 use super::inputs::wire_of;
 use super::play::LAST;
 use super::build::Made;
@@ -15,6 +14,7 @@ use block::Connected;
 use lines::block::Line;
 use lines::block::read_block_line;
 use lister::feed::Feed;
+use lister::feed::Taken;
 use lister::feed::fresh_feed;
 use lister::feed::next_line;
 
@@ -57,6 +57,39 @@ fn goes_on(f: First) -> bool {
     }
 }
 
+// What a line that was taken does.
+fn take_line(
+    u: SetUp,
+    t: Taken,
+    n: u64,
+    line: &[u8],
+    words: &mut [u32],
+    samples: &mut [u32],
+    pcm: &mut [f32],
+    table: &mut [f32],
+    inputs: &mut [f32],
+) -> SetUp
+    requires { ⌜ MadeOk (u .made) × (length (now words) ≡ 100744) × (length (now samples) ≡ 1028) × (length (now pcm) ≡ 65536) ⌝ }
+    ensures { λ r. ⌜ MadeOk (r .made) × (r .line ≡ n) ⌝ }
+{
+    let d = read_block_line(line);
+    let m = u.made;
+    let added = made_after(d, line, m, words, samples, pcm, table);
+    let was = u.connected;
+    let w = wire_of(d);
+    let connected = connect(inputs, was, w);
+    let first = first_of(t.over, added.ok, d);
+    let feed = t.feed;
+    let made = added.made;
+    SetUp {
+        made,
+        connected,
+        line: n,
+        first,
+        feed,
+    }
+}
+
 // One line more.
 fn set_line(
     u: SetUp,
@@ -70,27 +103,12 @@ fn set_line(
     requires { ⌜ MadeOk (u .made) × (u .line < 0x8000_0000_0000_0000) × (length (now words) ≡ 100744) × (length (now samples) ≡ 1028) × (length (now pcm) ≡ 65536) ⌝ }
     ensures { λ r. ⌜ MadeOk (r .made) × (r .line ≡ u .line + 1) ⌝ }
 {
+    let n = u.line + 1;
     let f = u.feed;
     let t = next_line(buf, f);
     let a = t.from;
     let e = t.to;
-    let d = read_block_line(&buf[a..e]);
-    let m = u.made;
-    let added = made_after(d, &buf[a..e], m, words, samples, pcm, table);
-    let w = wire_of(d);
-    set_input(inputs, w);
-    let was = u.connected;
-    let connected = connected_after(was, w);
-    let first = first_of(t.over, added.ok, d);
-    let feed = t.feed;
-    let made = added.made;
-    SetUp {
-        made,
-        connected,
-        line: u.line + 1,
-        first,
-        feed,
-    }
+    take_line(u, t, n, &buf[a..e], words, samples, pcm, table, inputs)
 }
 
 // Every line up to the first voice, or to one that ends it all.

@@ -19,16 +19,22 @@ fn put_single(out: &mut [u8], at: usize, x: f32) -> usize {
     put_hex(out, k, bits_f32(x))
 }
 
-// The singles of one output.
-fn put_output(out: &mut [u8], at: usize, letter: u8, step: u64, frames: &[f32]) -> usize {
-    let a = make_room(out, at);
-    let h = put_byte(out, a, letter);
-    let mut k = put_number(out, h, step);
+fn put_singles(out: &mut [u8], at: usize, frames: &[f32]) -> usize {
+    let mut k = at;
     let mut i: usize = 0;
     while i < frames.len() {
         k = put_single(out, k, frames[i]);
         i += 1;
     }
+    k
+}
+
+// The singles of one output.
+fn put_output(out: &mut [u8], at: usize, letter: u8, step: u64, frames: &[f32]) -> usize {
+    let a = make_room(out, at);
+    let h = put_byte(out, a, letter);
+    let n = put_number(out, h, step);
+    let k = put_singles(out, n, frames);
     put_byte(out, k, b'\n')
 }
 
@@ -63,15 +69,20 @@ fn put_totals(out: &mut [u8], at: usize, s: Session, step: u64) -> usize {
     put_byte(out, k, b'\n')
 }
 
+// players, dropped, next_slot
+fn put_counts(out: &mut [u8], at: usize, v: SampleVoice) -> usize {
+    let mut k = put_number(out, at, v.players.count as u64);
+    k = put_number(out, k, v.dropped as u64);
+    k = put_number(out, k, v.next_slot as u64);
+    put_byte(out, k, b'\n')
+}
+
 fn put_voice(out: &mut [u8], at: usize, step: u64, v: SampleVoice) -> usize {
     let a = make_room(out, at);
     let mut k = put_byte(out, a, b'V');
     k = put_number(out, k, step);
     k = put_number(out, k, v.voice);
-    k = put_number(out, k, v.players.count as u64);
-    k = put_number(out, k, v.dropped as u64);
-    k = put_number(out, k, v.next_slot as u64);
-    put_byte(out, k, b'\n')
+    put_counts(out, k, v)
 }
 
 fn put_sequence(out: &mut [u8], at: usize, step: u64, region: u64, counter: u32, on: bool) -> usize {
