@@ -18,11 +18,17 @@ use voice::reset;
 
 // What a line asks for once there is a program.
 pub const NONE: u32 = 0;
+
 pub const INPUT: u32 = 1;
+
 pub const VOICE: u32 = 2;
+
 pub const BLOCK: u32 = 3;
+
 pub const ASK: u32 = 4;
+
 pub const RESET: u32 = 5;
+
 pub const CLOSE: u32 = 6;
 
 // That, the voice, and what is told with it.
@@ -219,9 +225,7 @@ pub fn do_call(
         return make_call(s, v, c.rate, program);
     }
     if kind == BLOCK {
-        return block_call(
-            s, v, c, on, words, samples, pcm, table, inputs, left, right,
-        );
+        return block_call(s, v, c, on, words, samples, pcm, table, inputs, left, right);
     }
     if kind == ASK {
         return ask_call(s, v, words, samples, pcm, table);

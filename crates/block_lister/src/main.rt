@@ -9,13 +9,13 @@ mod show;
 
 ghost use mathlib.Core.Path.{_≡_};
 ghost use lib.ListN.{length};
-use program::bind::Bound;
-use program::bind::bind;
 use lister::show::put_refusal;
 use lister::show::put_refusal_of;
 use lister::text::flush;
 use play::Begun;
 use play::play;
+use program::bind::Bound;
+use program::bind::bind;
 use setup::First;
 use setup::SetUp;
 use setup::set_up;
@@ -99,8 +99,23 @@ fn main() {
     let mut pcm = [0.0f32; 65536];
     let mut table = [0.0f32; 8194];
     let mut inputs = [0.0f32; 896];
-    let u = set_up(&mut buf, &mut words, &mut samples, &mut pcm, &mut table, &mut inputs);
+    let u = set_up(
+        &mut buf,
+        &mut words,
+        &mut samples,
+        &mut pcm,
+        &mut table,
+        &mut inputs,
+    );
     let n = u.made.regions * 392;
     let m = u.made.samples * 4;
-    go_on(&mut buf, u, &words[0..n], &samples[0..m], &pcm, &table, &mut inputs);
+    go_on(
+        &mut buf,
+        u,
+        &words[0..n],
+        &samples[0..m],
+        &pcm,
+        &table,
+        &mut inputs,
+    );
 }

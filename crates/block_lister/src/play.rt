@@ -160,7 +160,18 @@ pub fn play(
         let mut left = [0.0f32; 128];
         let mut right = [0.0f32; 128];
         let r = do_call(
-            session, v, c, connected, program, words, samples, pcm, table, inputs, &mut left, &mut right,
+            session,
+            v,
+            c,
+            connected,
+            program,
+            words,
+            samples,
+            pcm,
+            table,
+            inputs,
+            &mut left,
+            &mut right,
         );
         session = r.session;
         let w = r.voice;
@@ -168,7 +179,18 @@ pub fn play(
         ids[j] = id_after(c, r.number, ids[j], w.voice);
         step = step_after(c, step);
         at = put_line(
-            &mut out, at, c, line, step, r.number, r.finished, session, w, g.regions, &left, &right,
+            &mut out,
+            at,
+            c,
+            line,
+            step,
+            r.number,
+            r.finished,
+            session,
+            w,
+            g.regions,
+            &left,
+            &right,
         );
         connected = connect(inputs, connected, wire);
         let t = read_line(buf, feed);

@@ -39,7 +39,14 @@ fn put_output(out: &mut [u8], at: usize, letter: u8, step: u64, frames: &[f32]) 
 }
 
 // Both outputs of a block.
-fn put_outputs(out: &mut [u8], at: usize, c: Call, step: u64, left: &[f32], right: &[f32]) -> usize {
+fn put_outputs(
+    out: &mut [u8],
+    at: usize,
+    c: Call,
+    step: u64,
+    left: &[f32],
+    right: &[f32],
+) -> usize {
     let n = c.frames as usize;
     if left.len() < n {
         return at;
@@ -85,7 +92,14 @@ fn put_voice(out: &mut [u8], at: usize, step: u64, v: SampleVoice) -> usize {
     put_counts(out, k, v)
 }
 
-fn put_sequence(out: &mut [u8], at: usize, step: u64, region: u64, counter: u32, on: bool) -> usize {
+fn put_sequence(
+    out: &mut [u8],
+    at: usize,
+    step: u64,
+    region: u64,
+    counter: u32,
+    on: bool,
+) -> usize {
     let a = make_room(out, at);
     let mut k = put_byte(out, a, b'Q');
     k = put_number(out, k, step);

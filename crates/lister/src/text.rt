@@ -1,6 +1,6 @@
 // The text that is written, collected in a buffer: each function puts something at `at` and answers the place after it.
-use lines::field::word_of;
 use libc::STDOUT_FILENO;
+use lines::field::word_of;
 
 // Room for any line that is printed.
 const LINE: usize = 2048;

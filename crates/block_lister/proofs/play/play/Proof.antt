@@ -144,7 +144,7 @@ loop-less : tie.Need-loop-less Inv-loop μ-loop
 loop-less c = omega (arith, c .before .before .before .before .before .before .before .before .before .before .before .before .before .before .before .before .before .before .before .before .before .before .before .before .before .before .before .before .before .before .before .before .before .loop-test .taken)
 
 loop-again : tie.Need-loop-again Inv-loop μ-loop
-loop-again c = 
+loop-again c =
     let i = c .before .before .before .before .before .before .before .before .before .before .before .before .before .before .before .before .before .before .before .before .before .before .before .before .before .before .before .before .before .before .before .before .before .before .loop .inv in
     let o = c .before .before .before .before .before .before .before .before .before .before .before .before .before .put-line .kept .0 in
     (c .before .before .before .before .before .before .read-line .kept .0 ∙ i .0, c .before .before .before .before .before .before .before .before .before .before .connect .kept .0 ∙ i .1, omega (arith, o, i .2), simp length-set (i .3), let h = i .4 in search needs)
