@@ -34,7 +34,7 @@ turn-scene c i sc y e x ex g eg r er =
     ∙ ap (λ (b : Bool). turnedScene (eventsAt (kitOf c) (c .time) i (strikeAt c i) b (y .playing)) y) eg
     ∙ ap (λ (z : Scene). turnedScene (eventsAt (kitOf c) (c .time) i (strikeAt c i) (gateAt (c .connected .gate) (c .gate) i) (z .playing)) z) e
 
-still : (c : Cues) (sc : Scene) (k : ℕ) → eventOn c sc k ≡ false → frameTurn c sc k ≡ sc
+pub still : (c : Cues) (sc : Scene) (k : ℕ) → eventOn c sc k ≡ false → frameTurn c sc k ≡ sc
 unfolding frameTurn
 still c sc k e = ap (λ t. pick t (eventTurn c k sc) sc) e
 

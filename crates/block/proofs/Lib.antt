@@ -4,3 +4,4 @@ pub mod Lasting
 pub mod Scenes
 pub mod Framing
 pub mod Wholes
+pub mod Quiet

@@ -128,7 +128,7 @@ pub fn gate_turns(prev: bool, g: bool) -> bool
 }
 
 // The first frame from `from` to n on which the gate is not as before, or n.
-fn next_gate(prev: bool, gated: bool, gate: &[f32], from: usize, n: usize) -> usize
+pub fn next_gate(prev: bool, gated: bool, gate: &[f32], from: usize, n: usize) -> usize
     requires { ⌜ (gated ≡ true → n ≤ length (now gate)) × (from ≤ n) ⌝ }
     ensures { λ r. ⌜ r ≡ nextGate prev gated (now (gate .entry)) from n ⌝ }
 {
