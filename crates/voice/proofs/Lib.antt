@@ -2,3 +2,5 @@ pub mod Refusals
 pub mod Passed
 pub mod Numbers
 pub mod Tied
+pub mod Tallies
+pub mod Idle

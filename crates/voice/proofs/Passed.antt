@@ -99,7 +99,7 @@ both : (a b : Bool) → (a && b) ≡ true → (a ≡ true) × (b ≡ true)
 both true b e = (refl, e)
 both false b e = absurd (true≢false (sym e))
 
-connected-fits : (t : Bool) (k n : ℕ) → not (isShort t k n) ≡ true → t ≡ true → n ≤ k
+pub connected-fits : (t : Bool) (k n : ℕ) → not (isShort t k n) ≡ true → t ≡ true → n ≤ k
 connected-fits t k n e p = ltb-false k n (sym (simp p) ∙ not-true (isShort t k n) e)
 
 -- what was lent, with these outputs

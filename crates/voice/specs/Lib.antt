@@ -1,3 +1,5 @@
 pub mod Tests
+pub mod Others
+pub mod Quiet
 pub mod Calls
 pub mod Numbers

@@ -3,6 +3,7 @@ ghost use mathlib.Core.Path.{_≡_};
 ghost use Rattle.program.specs.Valid.{every};
 ghost use Rattle.voice.specs.Tests.{rateFits, isShort, partsFit, overPlayers, sessionTests, voiceTests, wellFormed, programFits, stateFits, inTime};
 use super::Lengths;
+use super::tally::others_fit;
 use block::Connected;
 use events::SampleVoice;
 use players::Players;
@@ -94,6 +95,10 @@ fn session_fits(s: Session, id: u64) -> bool
     }
     if twice_live(s) {
         return false;
+    }
+    // both causes that the list shows in one walk; records of an id or a region that no call makes go the plain way
+    if others_fit(s, 0xffff_ffff, 0) {
+        return !over_records(s);
     }
     if stray_record(s) {
         return false;

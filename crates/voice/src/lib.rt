@@ -2,6 +2,8 @@
 // result or the refusal that its inputs call for, and a refused call changes nothing. A contract is one equation for all that the call
 // leaves, and beside it the number of its answer: 01's first cause that holds, 0 where none does.
 pub mod check;
+pub mod quiet;
+pub mod tally;
 
 ghost use mathlib.Core.Path.{_≡_};
 ghost use lib.ListN.{length};
@@ -21,6 +23,8 @@ use note::MaybeNote;
 use players::no_players;
 use program::bind::BoundProgram;
 use program::lookup::has_release_for;
+use quiet::is_quiet;
+use quiet::quiet_outputs;
 use session::Session;
 use session::close_voice;
 use session::end_voice;
@@ -37,9 +41,10 @@ pub enum Answer {
 }
 
 pub struct Called {
-    pub answer: Answer,
     pub session: Session,
     pub voice: SampleVoice,
+    // behind the large parts, which are then copied to aligned places
+    pub answer: Answer,
 }
 
 pub struct Asked {
@@ -65,7 +70,7 @@ pub struct Lengths {
     pub right: usize,
 }
 
-// A call that is turned back.
+// A call that leaves session and voice as they were: one that is turned back, or a quiet block.
 fn refused(answer: Answer, s: Session, v: SampleVoice) -> Called
     ensures { λ r. ⌜ r ≡ called answer s v ⌝ }
 {
@@ -217,6 +222,10 @@ pub fn block(
     );
     if !parts_fit(n, c, lengths) {
         return refused(Answer::BadBlock, s, v);
+    }
+    if is_quiet(s, v, t, c, gate, words, samples, pcm.len(), table.len()) {
+        quiet_outputs(c.amp, amp, &mut left[0..n], &mut right[0..n]);
+        return refused(Answer::Done, s, v);
     }
     if !state_fits(s, v, words, samples, pcm.len(), table.len()) {
         return refused(Answer::BadState, s, v);

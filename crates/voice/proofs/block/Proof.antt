@@ -8,7 +8,9 @@ use Rattle.session.proofs.Walks.{long}
 use Rattle.block.specs.Inputs.{Lent}
 use Rattle.voice.specs.Tests.{partsFit, lengthsOf, stateFits, inTime}
 use Rattle.voice.proofs.Refusals.{block-7, block-8, block-9}
-use Rattle.voice.proofs.Passed.{in-left, in-right, ready, block-out}
+use Rattle.block.proofs.Wholes.{covers-as}
+use Rattle.voice.proofs.Passed.{in-left, in-right, part-length, ready, block-out}
+use Rattle.voice.proofs.Idle.{gate-covers, amp-covers, quiet-out}
 use Rattle.voice.proofs.Numbers.{block-promise}
 use Rattle.voice.proofs.block.Statement.{statement}
 use Rattle.voice.proofs.block.Tie as tie
@@ -40,21 +42,28 @@ entry c = c .before .before .before .before .before .before .before .before .bef
 passed-7 : (c : tie.Else1) → partsFit (entry c .args .t .frames) (entry c .args .c) (lengthsOf (lent (entry c))) ≡ true
 passed-7 c = sym (c .before .parts-fit .ensures ∙ ap (partsFit (entry c .args .t .frames) (entry c .args .c)) (c .before .before .lengths-of .ensures)) ∙ not-false _ (c .if1 .left)
 
-abbrev first : tie.Else2 → tie.Else1
-first c = c .before .before
+-- past the quiet block
+abbrev still : tie.Else2 → tie.Else1
+still c = c .before .before
 
-passed-8 : (c : tie.Else2) → let e = entry (first c) .args in stateFits (e .s) (e .v) (now (e .words)) (now (e .samples)) (length (now (e .pcm))) (length (now (e .table))) ≡ true
-passed-8 c = sym (c .before .state-fits .ensures) ∙ not-false _ (c .if2 .left)
+abbrev first : tie.Else3 → tie.Else1
+first c = still (c .before .before)
 
-abbrev second : tie.Else3 → tie.Else2
+passed-8 : (c : tie.Else3) → let e = entry (first c) .args in stateFits (e .s) (e .v) (now (e .words)) (now (e .samples)) (length (now (e .pcm))) (length (now (e .table))) ≡ true
+passed-8 c = sym (c .before .state-fits .ensures) ∙ not-false _ (c .if3 .left)
+
+abbrev second : tie.Else4 → tie.Else3
 second c = c .before .before
 
-passed-9 : (c : tie.Else3) → let e = entry (first (second c)) .args in inTime (e .t .offset) (e .s .«event_serial») ≡ true
-passed-9 c = sym (c .before .in-time .ensures) ∙ not-false _ (c .if3 .left)
+passed-9 : (c : tie.Else4) → let e = entry (first (second c)) .args in inTime (e .t .offset) (e .s .«event_serial») ≡ true
+passed-9 c = sym (c .before .in-time .ensures) ∙ not-false _ (c .if4 .left)
 
--- the places of the players, as their type has them
+-- the places of the players, and of the records, as their types have them
 sized : (e : tie.Start) → length (e .args .v .players .players) ≡ 32
 sized e = long _ (e .args .v .players .players) 32 (e .good .1 .0 .1 .1 .1 .1 .1 .1 .1 .1 .1 .0 .1 .1 .0 .1 .0 .1)
+
+listed : (e : tie.Start) → length (e .args .s .players) ≡ 512
+listed e = long _ (e .args .s .players) 512 (e .good .0 .1 .1 .0 .1 .0 .1)
 
 lengths-of-requires : tie.Need-lengths-of-requires
 lengths-of-requires c κs = search needs
@@ -68,23 +77,59 @@ refused-requires c κs = search needs
 returns : tie.Need-returns
 returns c = let e = c .before .before .before .before .before .before .before .before .before .before .before .before .before .before .before .before .before in block-promise (lent e) (e .args .s) (e .args .v) (block-7 (lent e) (e .args .s) (e .args .v) _ (c .refused .ensures) (sym (c .before .before .parts-fit .ensures ∙ ap (partsFit (e .args .t .frames) (e .args .c)) (c .before .before .before .lengths-of .ensures)) ∙ not-true _ (c .before .if1 .taken)))
 
-state-fits-requires : tie.Need-state-fits-requires
-state-fits-requires c κs = search needs
+is-quiet-requires : tie.Need-is-quiet-requires
+is-quiet-requires c κs = gate-covers (lent (entry c)) (passed-7 c)
+
+sub-quiet-outputs : tie.Need-sub-quiet-outputs
+sub-quiet-outputs c = search needs
+
+part-quiet-outputs-start : tie.Need-part-quiet-outputs-start
+part-quiet-outputs-start c = search needs
+
+part-quiet-outputs-end : tie.Need-part-quiet-outputs-end
+part-quiet-outputs-end c = let d = c .before .before in let e = entry d in in-left (lent e) (e .args .s) (e .args .v) (passed-7 d)
+
+sub-quiet-outputs-2 : tie.Need-sub-quiet-outputs-2
+sub-quiet-outputs-2 c = search needs
+
+part-quiet-outputs-start-2 : tie.Need-part-quiet-outputs-start-2
+part-quiet-outputs-start-2 c = search needs
+
+part-quiet-outputs-end-2 : tie.Need-part-quiet-outputs-end-2
+part-quiet-outputs-end-2 c = let d = c .before .before .before in let e = entry d in in-right (lent e) (e .args .s) (e .args .v) (passed-7 d)
+
+quiet-outputs-requires : tie.Need-quiet-outputs-requires
+quiet-outputs-requires c κs = let d = c .before .before .before .before in let e = entry d in let l = lent e in let n = e .args .t .frames in (covers-as (e .args .c .amp) (now (e .args .amp)) _ n (part-length n (l .left) (in-left l (e .args .s) (e .args .v) (passed-7 d))) (amp-covers l (passed-7 d)), covers-as (e .args .c .amp) (now (e .args .amp)) _ n (part-length n (l .right) (in-right l (e .args .s) (e .args .v) (passed-7 d))) (amp-covers l (passed-7 d)))
 
 refused-requires-2 : tie.Need-refused-requires-2
 refused-requires-2 c κs = search needs
 
-returns-2 : tie.Need-returns-2
-returns-2 c = let d = c .before .before .before in let e = entry d in block-promise (lent e) (e .args .s) (e .args .v) (block-8 (lent e) (e .args .s) (e .args .v) (passed-7 d) _ (c .refused2 .ensures) (sym (c .before .before .state-fits .ensures) ∙ not-true _ (c .before .if2 .taken)))
+same-length : tie.Need-same-length
+same-length c = search needs
 
-in-time-requires : tie.Need-in-time-requires
-in-time-requires c κs = search needs
+same-length-2 : tie.Need-same-length-2
+same-length-2 c = search needs
+
+returns-2 : tie.Need-returns-2
+returns-2 c = let d = c .before .before .before .before .before .before .before .before .before .before in let e = entry d in block-promise (lent e) (e .args .s) (e .args .v) (quiet-out (lent e) (e .args .s) (e .args .v) (sym (c .before .before .before .before .before .before .before .before .before .is-quiet .ensures) ∙ c .before .before .before .before .before .before .before .before .if2 .taken) (listed e) (passed-7 d) _ (c .refused2 .ensures) _ _ (c .before .before .before .before .before .quiet-outputs .ensures .0) (c .before .before .before .before .before .quiet-outputs .ensures .1) (same-length c) (same-length-2 c))
+
+state-fits-requires : tie.Need-state-fits-requires
+state-fits-requires c κs = search needs
 
 refused-requires-3 : tie.Need-refused-requires-3
 refused-requires-3 c κs = search needs
 
 returns-3 : tie.Need-returns-3
-returns-3 c = let f = c .before .before .before in let e = entry (first f) in block-promise (lent e) (e .args .s) (e .args .v) (block-9 (lent e) (e .args .s) (e .args .v) (passed-7 (first f)) (passed-8 f) _ (c .refused3 .ensures) (sym (c .before .before .in-time .ensures) ∙ not-true _ (c .before .if3 .taken)))
+returns-3 c = let d = still (c .before .before .before) in let e = entry d in block-promise (lent e) (e .args .s) (e .args .v) (block-8 (lent e) (e .args .s) (e .args .v) (passed-7 d) _ (c .refused3 .ensures) (sym (c .before .before .state-fits .ensures) ∙ not-true _ (c .before .if3 .taken)))
+
+in-time-requires : tie.Need-in-time-requires
+in-time-requires c κs = search needs
+
+refused-requires-4 : tie.Need-refused-requires-4
+refused-requires-4 c κs = search needs
+
+returns-4 : tie.Need-returns-4
+returns-4 c = let f = c .before .before .before in let e = entry (first f) in block-promise (lent e) (e .args .s) (e .args .v) (block-9 (lent e) (e .args .s) (e .args .v) (passed-7 (first f)) (passed-8 f) _ (c .refused4 .ensures) (sym (c .before .before .in-time .ensures) ∙ not-true _ (c .before .if4 .taken)))
 
 sub-play-block : tie.Need-sub-play-block
 sub-play-block c = search needs
@@ -107,14 +152,14 @@ part-play-block-end-2 c = let d = first (second (c .before)) in let e = entry d 
 play-block-requires : tie.Need-play-block-requires
 play-block-requires c κs = let g = c .before .before in let f = second g in let e = entry (first f) in ready (lent e) (e .args .s) (e .args .v) (sized e) (passed-7 (first f)) (passed-8 f) (passed-9 g)
 
-same-length : tie.Need-same-length
-same-length c = search needs
+same-length-3 : tie.Need-same-length-3
+same-length-3 c = search needs
 
-same-length-2 : tie.Need-same-length-2
-same-length-2 c = search needs
+same-length-4 : tie.Need-same-length-4
+same-length-4 c = search needs
 
-returns-4 : tie.Need-returns-4
-returns-4 c = let g = c .before .before .before .before .before .before .before .before .before in let f = second g in let d = first f in let e = entry d in block-promise (lent e) (e .args .s) (e .args .v) (block-out (lent e) (e .args .s) (e .args .v) (passed-7 d) (passed-8 f) (passed-9 g) _ _ _ (c .before .before .before .before .before .before .play-block .ensures .0) (same-length c) (same-length-2 c))
+returns-5 : tie.Need-returns-5
+returns-5 c = let g = c .before .before .before .before .before .before .before .before .before in let f = second g in let d = first f in let e = entry d in block-promise (lent e) (e .args .s) (e .args .v) (block-out (lent e) (e .args .s) (e .args .v) (passed-7 d) (passed-8 f) (passed-9 g) _ _ _ (c .before .before .before .before .before .before .play-block .ensures .0) (same-length-3 c) (same-length-4 c))
 
 pub block-spec : {M : Type 1} → statement M
 block-spec =
@@ -124,12 +169,24 @@ block-spec =
     parts-fit-requires
     refused-requires
     returns
-    state-fits-requires
+    is-quiet-requires
+    sub-quiet-outputs
+    part-quiet-outputs-start
+    part-quiet-outputs-end
+    sub-quiet-outputs-2
+    part-quiet-outputs-start-2
+    part-quiet-outputs-end-2
+    quiet-outputs-requires
     refused-requires-2
+    same-length
+    same-length-2
     returns-2
-    in-time-requires
+    state-fits-requires
     refused-requires-3
     returns-3
+    in-time-requires
+    refused-requires-4
+    returns-4
     sub-play-block
     part-play-block-start
     part-play-block-end
@@ -137,6 +194,6 @@ block-spec =
     part-play-block-start-2
     part-play-block-end-2
     play-block-requires
-    same-length
-    same-length-2
-    returns-4)
+    same-length-3
+    same-length-4
+    returns-5)

@@ -1,0 +1,24 @@
+-- What a voice without players asks of the session's list. Definitions only.
+use Prim.Native.Nat.{ℕ}
+use mathlib.Core.Bool.{Bool, not, _&&_, _||_}
+use mathlib.Core.List.{List}
+use lib.Dec.{leb, eqb}
+use Rattle.session.specs.Lists.{any}
+use Rattle.session.specs.Offs.{firstAt}
+use Rattle.session.specs.Records.{ofVoice}
+use Rattle.session.specs.State.{view}
+use Rattle.session.specs.Tests.{strayRecord, overVoice, regionOutside}
+use Rattle.session.specs.declared.PlayerRecord.{PlayerRecord}
+use Rattle.session.specs.declared.Session.{Session}
+
+-- the first place of a number in a list; past it where there is none
+abbrev pub placeIn : ℕ → List ℕ → ℕ
+placeIn k xs = firstAt (λ x. eqb x k) xs
+
+-- of a region outside n, or of the voice itself
+abbrev pub amiss : ℕ → ℕ → PlayerRecord → Bool
+amiss n id r = leb n (r .region) || eqb (r .voice) id
+
+-- no record of a voice not live, none more than 32 of one voice, none of a region outside n, and none of the voice itself
+unfoldable pub othersFit : ℕ → ℕ → Session → Bool
+othersFit n id s = not (strayRecord s) && (not (overVoice s) && (not (regionOutside n s) && not (any (ofVoice id) (view s))))

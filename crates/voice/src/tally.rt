@@ -1,0 +1,82 @@
+// What a voice without players asks of the session's list, in one walk: the causes under 8 that the list shows, with a count for each
+// live voice.
+ghost use mathlib.Core.Path.{_≡_};
+ghost use Prim.Native.Nat.{_≤_};
+ghost use lib.ListN.{length, take};
+ghost use Rattle.session.specs.Lists.{usedOf};
+ghost use Rattle.voice.specs.Others.{placeIn, amiss, othersFit};
+use session::PlayerRecord;
+use session::Session;
+
+// The places of an array in use: never more than it has.
+fn used(count: usize, size: usize) -> usize
+    ensures { λ n. ⌜ n ≡ usedOf size count ⌝ }
+{
+    if count < size { count } else { size }
+}
+
+// The first of n places at which the id stands; n where it stands at none.
+fn place_of(ids: &[u64; 16], n: usize, id: u64) -> usize
+    requires { ⌜ (n ≤ 16) × (length (now ids) ≡ 16) ⌝ }
+    ensures { λ k. ⌜ k ≡ placeIn id (take n (now (ids .entry))) ⌝ }
+{
+    let mut i: usize = 0;
+    while i < n {
+        if ids[i] == id {
+            return i;
+        }
+        i += 1;
+    }
+    i
+}
+
+// Whether the record's region is outside so many, or the record is the voice's own.
+fn is_amiss(r: PlayerRecord, regions: u32, voice: u64) -> bool
+    ensures { λ b. ⌜ b ≡ amiss regions voice r ⌝ }
+{
+    if regions <= r.region {
+        return true;
+    }
+    r.voice == voice
+}
+
+// The same of a list that has records: one walk, with a count for each live voice.
+fn tally_fits(s: Session, regions: u32, voice: u64) -> bool
+    ensures { λ b. ⌜ b ≡ othersFit regions voice s ⌝ }
+{
+    let n = used(s.count, 512);
+    let v = s.voices;
+    let live = used(v.count, 16);
+    let ids = v.ids;
+    let mut counts = [0u32; 16];
+    let mut i: usize = 0;
+    while i < n {
+        let r = s.players[i];
+        if is_amiss(r, regions, voice) {
+            return false;
+        }
+        let p = place_of(&ids, live, r.voice);
+        if live <= p {
+            return false;
+        }
+        let k = counts[p];
+        if 32 <= k {
+            return false;
+        }
+        counts[p] = k + 1;
+        i += 1;
+    }
+    true
+}
+
+// What a voice without players asks of the list, in one walk: every record another live voice's and of one of so many regions, and none
+// of them with more than 32.
+pub fn others_fit(s: Session, regions: u32, voice: u64) -> bool
+    ensures { λ b. ⌜ b ≡ othersFit regions voice s ⌝ }
+{
+    // nothing is copied for an empty list
+    if s.count == 0 {
+        return true;
+    }
+    tally_fits(s, regions, voice)
+}
