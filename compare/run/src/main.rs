@@ -28,8 +28,8 @@ impl Set {
         loop {
             let text = if self == Set::Desk { desk::script(g) } else { block::script(g) };
             let text = if g.below(9) == 0 { damage::damage(g, text) } else { text.into_bytes() };
-            // The port's desk lister reads lines of up to 4,096 bytes: docs/DIFFERENCES.md.
-            if self.desk() && text.split(|&c| c == b'\n').any(|l| l.len() > 4_096) { continue; }
+            // The port's listers read lines of up to 4,096 bytes: docs/DIFFERENCES.md.
+            if text.split(|&c| c == b'\n').any(|l| l.len() > 4_096) { continue; }
             if self.desk() || !block::slow(&String::from_utf8_lossy(&text)) { return text; }
         }
     }
