@@ -225,6 +225,15 @@ fn point(g: &mut Rng) -> String {
     format!("{},{}", g.pick(&[0, 1, 64, 100, 126, 127, g.0 % 128]), hex(gain))
 }
 
+/// A note of silence that lasts as long as its gate.
+fn steady(f: &mut [String], key: u8) {
+    f[SAMPLE] = "-".into();
+    for (i, v) in [key, key, 0, 127].iter().enumerate() { f[LOKEY + i] = v.to_string(); }
+    f[LOOP_MODE] = "0".into();
+    f[DELAY + 4] = hex(100.0);
+    none(f, XF, 5);
+}
+
 fn region(g: &mut Rng, about: About, keys: &[u8], samples: &[Sample]) -> Region {
     let odd = g.pick(&[0, 0, 0, 0, 15]);
     let mut f: Vec<String> = vec!["-".into(); 47];
@@ -244,6 +253,7 @@ fn region(g: &mut Rng, about: About, keys: &[u8], samples: &[Sample]) -> Region 
         none(&mut f, GROUP + 1, 1);
         none(&mut f, POLYPHONY, 2);
         f[TRIGGER] = if about == About::Crowd { 0 } else { g.weighted(&[90, 5, 5]) }.to_string();
+        if about == About::Crowd && g.percent(90) { steady(&mut f, keys[0]); }
     }
     let most = match about { About::Filters => 6, About::Full | About::Crowd => 1, _ => 2 };
     let (some_filters, some_bands) = if about == About::Filters { (90, 60) } else { (25, 12) };
@@ -324,6 +334,7 @@ fn program(g: &mut Rng, about: About, keys: &[u8], out: &mut String) {
         _ => g.weighted(&[1, 25, 25, 20, 15, 8, 6]) as u64,
     };
     let mut regions: Vec<Region> = (0..n).map(|_| region(g, about, keys, &samples)).collect();
+    if about == About::Crowd && g.percent(60) { for r in &mut regions { steady(&mut r.fields, keys[0]); } }
     if about == About::Edge { edge(g, &mut samples, &mut regions, out); }
     for s in &samples { writeln!(out, "S,{},{},{},{},{}", hex(s.rate), s.channels, s.frames, s.kind, g.next()).unwrap(); }
     if about == About::Edge && g.percent(3) {
@@ -469,6 +480,51 @@ pub fn script(g: &mut Rng) -> String {
         writeln!(out, "{}\nA,1", l.replace('V', &v.to_string())).unwrap();
     }
     out
+}
+
+/// Kits of two regions, as what differs from `Region::default` on the keys 60 to 62: chokes, loops and fades, polyphonies, sequences, filters, delays.
+const KITS: [[&[(usize, &str)]; 2]; 6] = [
+    [&[(GROUP, "1"), (GROUP + 1, "2")], &[(SAMPLE, "1"), (GROUP, "2"), (GROUP + 1, "1"), (GROUP + 2, "1"), (LOKEY, "62")]],
+    [&[(SAMPLE, "1"), (LOOP_MODE, "2"), (LOOP, "40"), (LOOP + 1, "90"), (POLYPHONY, "1"), (GROUP + 2, "2"), (OFF_TIME, "3B03126F")], &[(LOOP_MODE, "3"), (LOOP, "5"), (LOOP + 1, "5"), (TRIGGER, "1")]],
+    [&[(SAMPLE, "1"), (POLYPHONY + 1, "1"), (TRANSPOSE, "7")], &[(TRIGGER, "2"), (TRIGGER + 1, "41A00000"), (POLYPHONY, "2"), (OFFSET, "20")]],
+    [&[(SEQ, "2"), (SEQ + 1, "1"), (VOLUME, "C0C00000")], &[(SAMPLE, "1"), (SEQ, "2"), (SEQ + 1, "2"), (VOLUME + 2, "C2480000"), (END, "30")]],
+    [&[(DELAY_S, "3B83126F"), (DELAY + 1, "3B03126F"), (DELAY + 5, "3C23D70A"), (LOOP_MODE, "1")], &[(SAMPLE, "-"), (DELAY, "3B83126F"), (TRIGGER, "1"), (POLYPHONY, "1")]],
+    [&[(TRIGGER, "3"), (DELAY + 4, "41200000"), (DELAY + 3, "3C23D70A")], &[(SAMPLE, "1"), (TRIGGER, "4"), (LOOP_MODE, "1"), (GROUP, "1"), (GROUP + 1, "0")]],
+];
+/// Events; `T` is the block's offset.
+const EVENTS: [&str; 10] = [
+    "I,1,0,3F800000\nB,1,T,64\n",
+    "I,1,0,00000000\nB,1,T,128\n",
+    "I,1,0,3F800000\nI,1,32,00000000\nB,1,T,64\n",
+    "I,1,0,00000000\nI,1,32,3F800000\nB,1,T,64\n",
+    "I,1,0,3F800000\nB,2,T,1\n",
+    "I,1,0,00000000\nI,1,10,3F800000\nI,1,20,00000000\nI,1,30,3F800000\nB,2,T,128\n",
+    "I,0,0,4392D7D8\nI,2,0,3F000000\nI,6,0,3F800000\nI,1,0,3F800000\nI,1,1,00000000\nI,1,2,3F800000\nB,2,T,64\n",
+    "I,5,0,3F000000\nI,1,0,00000000\nB,2,T,64\n",
+    "Z,1\nA,1\n",
+    "D,2\nV,45FA0000\nI,1,0,3F800000\nB,3,T,64\n",
+];
+/// How many scripts there are of this many events.
+pub fn short_count(length: u32) -> u64 { KITS.len() as u64 * (EVENTS.len() as u64).pow(length) }
+/// Script k of them: every sequence of events over every kit.
+pub fn short(k: u64, length: u32) -> String {
+    let usual = "0,60,62,0,127,60,42C80000,00000000,0,0,-,0,0,-,-,00000000,00000000,00000000,42C80000,42C80000,00000000,00000000,00000000,00000000,42C80000,3A83126F,00000000,-,-,-,-,0,-,0,3BC49BA6,0,00000000,00000000,-,-,43480000,C3480000,-,-,-,-,-";
+    let mut out = String::from("S,45FA0000,1,60,1,7\nS,46FA0000,2,400,1,9\n");
+    let kit = k % KITS.len() as u64;
+    for region in KITS[kit as usize] {
+        let mut f: Vec<&str> = usual.split(',').collect();
+        for (at, v) in region { f[*at] = v; }
+        writeln!(out, "R,{}", f.join(",")).unwrap();
+        if kit == 3 { out += "F,0,44FA0000,40400000,00000000,60,00000000,00000000\nQ,0,447A0000,3F800000,40C00000,00000000,00000000\n"; }
+    }
+    out += "V,45FA0000\nV,472C4400\nI,0,0,4382D10F\nI,2,0,3F800000\nI,6,0,00000000\n";
+    let mut rest = k / KITS.len() as u64;
+    for i in 0..length as u64 {
+        out += &EVENTS[(rest % EVENTS.len() as u64) as usize].replace('T', &(i * 64).to_string());
+        rest /= EVENTS.len() as u64;
+    }
+    // what is left waiting acts
+    out + "I,1,0,00000000\nB,1,512,128\nA,1\n"
 }
 
 /// Whether the Rust would take seconds over a loop: an offset millions of loops behind it.

@@ -126,7 +126,7 @@ pub fn script(g: &mut Rng) -> String {
             0 => writeln!(out, "Z,{}", live[i]).unwrap(),
             1 => { writeln!(out, "D,{}", live[i]).unwrap(); live.remove(i); }
             _ => {
-                let frames = g.pick(&[1, 2, 16, 64, 64, 128, 128, 128, 127]);
+                let frames = g.pick(&[1, 2, 16, 64, 64, 128, 128, 128, 127, g.0 % 128 + 1]);
                 let last = g.percent(40);
                 let t = clock.offset(g, frames, last);
                 let gate = (crowding || g.percent(60)) as u8;

@@ -4,21 +4,33 @@ ghost use mathlib.Core.Path.{_≡_};
 ghost use lib.ListN.{length};
 ghost use Rattle.lister.specs.Feed.{FeedOk, TakenOk};
 
+// No text has more lines.
+pub const LAST: u64 = 0x8000_0000_0000_0000;
+
 // The longest line that is read, without its newline.
 const LONGEST: usize = 4096;
 
-// The bytes from..to of the buffer are still to be taken; `ended` where no more follow.
+// The bytes from..to of the buffer are still to be taken; `ended` where no more follow. Where the input is `parted`, a line `=` ends a
+// script, and `parting` says that the line taken last was one.
 pub struct Feed {
     pub from: usize,
     pub to: usize,
     pub ended: bool,
+    pub parted: bool,
+    pub parting: bool,
 }
 
-// A line, the bytes from..to of the buffer, or none where the input is over.
+// A line, the bytes from..to of the buffer, or none where the script is over.
 pub struct Taken {
     pub over: bool,
     pub from: usize,
     pub to: usize,
+    pub feed: Feed,
+}
+
+// What a script leaves: whether its last line was taken, and what is still to be taken.
+pub struct Left {
+    pub over: bool,
     pub feed: Feed,
 }
 
@@ -30,6 +42,21 @@ pub fn fresh_feed() -> Feed
         from: 0,
         to: 0,
         ended: false,
+        parted: false,
+        parting: false,
+    }
+}
+
+// The same, of many scripts that are parted by lines `=`.
+pub fn parted_feed() -> Feed
+    ensures { λ r. ⌜ (r .from ≡ 0) × (r .to ≡ 0) ⌝ }
+{
+    Feed {
+        from: 0,
+        to: 0,
+        ended: false,
+        parted: true,
+        parting: false,
     }
 }
 
@@ -58,6 +85,8 @@ fn refill(buf: &mut [u8], f: Feed) -> Feed
         from: 0,
         to,
         ended: to < buf.len(),
+        parted: f.parted,
+        parting: false,
     }
 }
 
@@ -89,6 +118,8 @@ fn placed(f: Feed, len: usize) -> Feed
         from: 0,
         to: 0,
         ended: true,
+        parted: false,
+        parting: false,
     }
 }
 
@@ -106,6 +137,36 @@ fn whole_line(buf: &mut [u8], f: Feed) -> Feed
     refill(buf, f)
 }
 
+// Whether the line that ends at `end` parts two scripts.
+fn is_parting(buf: &[u8], f: Feed, end: usize) -> bool
+    requires { ⌜ (f .from ≤ end) × (end ≤ length (now buf)) ⌝ }
+{
+    let from = f.from;
+    if !f.parted {
+        return false;
+    }
+    if end - from != 1 {
+        return false;
+    }
+    buf[from] == b'='
+}
+
+// What is to be taken after the line that ends at `end`.
+fn passed(f: Feed, end: usize, parting: bool) -> Feed
+    requires { ⌜ end ≤ f .to ⌝ }
+    ensures { λ r. ⌜ (r .from ≤ r .to) × (r .to ≡ f .to) ⌝ }
+{
+    let to = f.to;
+    let mut next = f;
+    next.parting = parting;
+    if end < to {
+        next.from = end + 1;
+        return next;
+    }
+    next.from = to;
+    next
+}
+
 // The next line without its newline, which the last one may lack. A line above 4,096 bytes comes as an empty one, which cannot be read
 // either.
 pub fn next_line(buf: &mut [u8], f: Feed) -> Taken
@@ -115,21 +176,47 @@ pub fn next_line(buf: &mut [u8], f: Feed) -> Taken
     let from = feed.from;
     let to = feed.to;
     let end = line_end(buf, from, to);
+    let parting = is_parting(buf, feed, end);
+    let next = passed(feed, end, parting);
     if LONGEST < end - from {
         return Taken {
             over: false,
             from,
             to: from,
-            feed,
+            feed: next,
         };
     }
-    let over = from == to;
-    let mut next = feed;
-    next.from = if end < to { end + 1 } else { to };
+    let over = parting || from == to;
     Taken {
         over,
         from,
         to: end,
         feed: next,
     }
+}
+
+// Whether nothing of a script is left to be passed over.
+fn is_over(left: Left) -> bool {
+    let feed = left.feed;
+    if feed.parted {
+        return left.over;
+    }
+    true
+}
+
+// What is left of a script is passed over, where another may follow.
+pub fn skip(buf: &mut [u8], left: Left) -> Feed {
+    let mut over = is_over(left);
+    let mut feed = left.feed;
+    let mut line: u64 = 0;
+    while line < LAST {
+        if over {
+            return feed;
+        }
+        let t = next_line(buf, feed);
+        over = t.over;
+        feed = t.feed;
+        line += 1;
+    }
+    feed
 }

@@ -1,3 +1,0 @@
-pub mod Feed
-pub mod Places
-pub mod Words
