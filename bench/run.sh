@@ -1,8 +1,9 @@
 #!/bin/sh
-# bench/run.sh [all | table | growth | counts] [ROUNDS] [LOAD]: the port beside the Rust on the same loads.
+# bench/run.sh [all | table | growth | counts | shares | write] [ROUNDS] [LOAD]: the port beside the Rust on the same loads.
 # table: microseconds of processor time a block of both and their ratio, each run a process, the two in turn, ROUNDS times (11).
-# growth: cost against players, records, regions, voices and frames. counts: the port's instructions and copies a block.
-# all: the three. It needs the Rust as ../shared (or SHARED=FOLDER), cargo and the kit, and valgrind for counts.
+# growth: cost against players, records, regions, voices and frames. counts: the port's instructions and copies a block. shares: where
+# its time goes. all: the four. write: the four, into docs/SPEED.md. It needs the Rust as ../shared (or SHARED=FOLDER), cargo and the
+# kit; counts needs valgrind, shares perf.
 set -eu
 shared=$(cd "${SHARED:-$(dirname "$0")/../../shared}" && pwd)
 cd "$(dirname "$0")/.."
@@ -10,7 +11,7 @@ here=$PWD
 work=$here/target/bench
 what=${1:-all}
 rounds=${2:-11}
-case $what in all | table | growth | counts) ;; *) sed -n '2,5s/^# //p' bench/run.sh >&2; exit 2 ;; esac
+case $what in all | table | growth | counts | shares | write) ;; *) sed -n '2,6s/^# //p' bench/run.sh >&2; exit 2 ;; esac
 
 # The port's side: a program over the voice, proved and compiled as any program of the repository, in a tree of its own that
 # shares the proved crates.
@@ -41,9 +42,27 @@ voices=$work/cargo/release/voices
 # What counts the copies.
 rustc --edition 2024 -O -C panic=abort --crate-type cdylib -o "$work/libcopies.so" bench/copies.rs
 
+run() { "$voices" "$port" "$work" "$@" || status=1; }
+all() {
+    kept=$(git diff --quiet HEAD -- crates && echo "commit" || echo "changed after commit")
+    echo "Measured: crates/ of $kept $(git rev-parse --short HEAD), $rounds rounds;$(sed -n '/^model name/{s/.*://p;q}' /proc/cpuinfo), $(nproc) processors; $(rustc --version | cut -d' ' -f1,2)."
+    printf '\n### Beside the Rust\n\n'
+    run table "$rounds"
+    printf '\n### Growth\n'
+    run growth "$rounds"
+    printf '\n### Instructions and copies a block\n\n'
+    run counts
+    printf '\n### Where the time goes\n\n'
+    run shares
+}
 status=0
 case $what in
-    all) for w in table growth counts; do echo; "$voices" "$port" "$work" "$w" "$rounds" || status=1; done ;;
-    *) "$voices" "$port" "$work" "$what" "$rounds" ${3+"$3"} || status=1 ;;
+    all) all ;;
+    write)
+        all >"$work/measured"
+        sed -e '/^<!-- measured -->$/,/^<!-- end -->$/{//!d;}' -e "/^<!-- measured -->\$/r $work/measured" docs/SPEED.md >"$work/SPEED.md"
+        cp "$work/SPEED.md" docs/SPEED.md
+        ;;
+    *) run "$what" "$rounds" ${3+"$3"} ;;
 esac
 exit $status

@@ -1,5 +1,5 @@
 //! Runs both sides of the benchmark in turn, each run a process of its own, and prints tables.
-//!   voices PORT WORK table [ROUNDS [LOAD]] | growth [ROUNDS] | counts
+//!   voices PORT WORK table [ROUNDS [LOAD]] | growth [ROUNDS] | counts | shares
 //!   voices list
 //!   voices rust LOAD WARM TIMED CHECKED            the Rust's side of one load
 //!   voices words LOAD WARM TIMED CHECKED FRAMES    the port's standard input for it
@@ -55,6 +55,8 @@ impl Sides {
     /// Instructions of a whole run.
     fn instructions(&self, l: &Load, r: Rounds) -> f64 {
         let mut c = Command::new("valgrind");
+        // copies by the vector registers: `rep movsb` would count each byte as an instruction
+        c.env("GLIBC_TUNABLES", "glibc.cpu.x86_rep_movsb_threshold=100000000:glibc.cpu.x86_rep_stosb_threshold=100000000");
         c.arg("--tool=callgrind").arg(format!("--callgrind-out-file={}/callgrind.{}", self.work, l.name)).arg("--main-stacksize=16000000").arg(&self.port);
         let said = String::from_utf8_lossy(&self.over(&mut c, l, r).stderr).into_owned();
         said.lines().find_map(|l| l.split("Collected : ").nth(1)).and_then(|n| n.trim().parse().ok()).expect("callgrind's count")
@@ -72,7 +74,7 @@ fn counts(s: &Sides) {
     let refused = Load { name: "refused".into(), frames: 0, ..named("idle").expect("a load") };
     let names = ["idle", "idle-480", "hermite-mono", "silent-32", "sinc-stereo-32", "edges-16x32-silent", "held-16x32-silent"];
     for l in std::iter::once(refused).chain(names.map(|n| named(n).expect("a load"))) {
-        let r = Rounds { warm: 4, timed: if l.voices == 1 { 20 } else { 2 }, checked: 1 };
+        let r = Rounds { warm: 4, timed: if l.voices == 1 { 20 } else { 10 }, checked: 1 };
         let blocks = r.timed as f64 * l.voices as f64;
         let i = (s.instructions(&l, r) - s.instructions(&l, Rounds { timed: 0, ..r })) / blocks;
         let c = s.copies(&l, r);
@@ -80,6 +82,27 @@ fn counts(s: &Sides) {
         by_size.sort_by_key(|c| std::cmp::Reverse(c.0 * c.1));
         let sizes: Vec<String> = by_size.iter().map(|c| format!("{} × {}", c.0, short(c.1 as f64 / blocks))).collect();
         println!("| {} | {i:.0} | {} | {:.0} | {} |", l.name, short(c[0].0 as f64 / blocks), c[0].1 as f64 / blocks, sizes.join(", "));
+    }
+}
+/// Where the port's time goes, by samples of its functions.
+fn shares(s: &Sides) {
+    println!("| Load | Samples | Share of each function, % |\n|---|---|---|");
+    let data = format!("{}/perf", s.work);
+    for l in ["idle", "idle-480", "hermite-32-biquads", "held-16x32-sinc", "edges-16x32-sinc", "edges-16x32-silent"].map(|n| named(n).expect("a load")) {
+        s.over(Command::new("perf").args(["record", "-q", "-e", "cpu-clock:u", "-F", "4000", "-o", &data]).arg(&s.port), &l, Rounds { timed: l.rounds * 8, ..l.usual() });
+        let report = Command::new("perf").args(["report", "-i", &data, "--stdio", "-q", "-F", "sample,symbol"]).output().expect("perf").stdout;
+        let mut by_name: Vec<(u64, String)> = String::from_utf8_lossy(&report).lines().filter_map(|l| {
+            let (n, name) = l.trim().split_once(' ')?;
+            let name = name.trim().trim_start_matches("[.] ").trim();
+            Some((n.parse().ok()?, if name.contains("mem") { "copying and clearing".into() } else { name.to_string() }))
+        }).fold(Vec::new(), |mut v: Vec<(u64, String)>, (n, name)| {
+            match v.iter_mut().find(|x| x.1 == name) { Some(x) => x.0 += n, None => v.push((n, name)) }
+            v
+        });
+        by_name.sort_by_key(|x| std::cmp::Reverse(x.0));
+        let all: u64 = by_name.iter().map(|x| x.0).sum();
+        let text: Vec<String> = by_name.iter().filter(|x| x.0 * 200 >= all).map(|(n, name)| format!("{name} {:.1}", *n as f64 * 100.0 / all as f64)).collect();
+        println!("| {} | {all} | {} |", l.name, text.join(", "));
     }
 }
 fn median(v: impl Iterator<Item = f64>) -> (f64, f64, f64) {
@@ -106,7 +129,7 @@ fn table(s: &Sides, rounds: u32, only: Option<String>) -> bool {
     }
     all
 }
-/// Costs by size, and what each further unit of it costs.
+/// Costs by size, the least of the rounds, and what each further unit of it costs.
 fn grown(s: &Sides, rounds: u32) -> bool {
     let mut all = true;
     for (what, by_size) in growth() {
@@ -115,7 +138,7 @@ fn grown(s: &Sides, rounds: u32) -> bool {
         for l in by_size {
             let size: f64 = l.name.rsplit(' ').next().and_then(|n| n.parse().ok()).expect("a size");
             let (t, equal) = s.measure(&l, rounds);
-            let (p, q) = (median(t.iter().map(|t| t.0)).0, median(t.iter().map(|t| t.1)).0);
+            let (p, q) = (median(t.iter().map(|t| t.0)).1, median(t.iter().map(|t| t.1)).1);
             let more = |was: f64, now: f64, from: f64| format!("{:.0}", (now - was) * 1000.0 / (size - from));
             let (a, b) = last.map_or((String::new(), String::new()), |(n, x, y)| (more(x, p, n), more(y, q, n)));
             println!("| {size} | {} | {a} | {} | {b} | {} |", short(p), short(q), yes(equal));
@@ -139,6 +162,7 @@ fn main() {
             let equal = match arg(3).as_deref() {
                 Some("growth") => grown(&s, rounds),
                 Some("counts") => { counts(&s); true }
+                Some("shares") => { shares(&s); true }
                 _ => table(&s, rounds, arg(5)),
             };
             exit(!equal as i32);
