@@ -9,3 +9,5 @@ pub mod HalfTaps
 pub mod Difference
 pub mod Whole
 pub mod Looping
+pub mod Inner
+pub mod Rows

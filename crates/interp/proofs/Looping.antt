@@ -67,7 +67,7 @@ refute : (b : Bool) → (T b → ⊥) → b ≡ false
 refute true f = absurd (f tt)
 refute false f = refl
 
-le-values : (x y : Float) (a c b d : ℕ) → HasValue x false a c → HasValue y false b d → T (le x y) → a * d ≤ b * c
+pub le-values : (x y : Float) (a c b d : ℕ) → HasValue x false a c → HasValue y false b d → T (le x y) → a * d ≤ b * c
 unfolding le lt eq
 le-values nan y a c b d p q t = absurd p
 le-values (inf s) y a c b d p q t = absurd p

@@ -45,7 +45,7 @@ magnitude-plus (inf s) t = absurd t
 magnitude-plus (fin s m e) t = tt
 
 -- ---- 512 times a magnitude has no minus sign
-abbrev signless : Float → Bool
+abbrev pub signless : Float → Bool
 signless nan = false
 signless (inf s) = not s
 signless (fin s m e) = not s
@@ -64,11 +64,11 @@ unfolding units
 units-signless f q k =
     either (ltb (q * 2 ^ k) (2 ^ (low f + suc (emax f)))) (odd (suc (prec f)) false q k (low f)) (inf false) (odd-signless (suc (prec f)) q k (low f)) tt
 
-round-signless : (f : Format) (n d : ℕ) → T (signless (round f false n d))
+pub round-signless : (f : Format) (n d : ℕ) → T (signless (round f false n d))
 unfolding round
 round-signless f n d = units-signless f _ _
 
-bounded : (x : Float) → T (signless x) → T (le x f8193) → T (plus x)
+pub bounded : (x : Float) → T (signless x) → T (le x f8193) → T (plus x)
 unfolding le lt eq ofBits
 bounded nan p t = absurd p
 bounded (inf true) p t = absurd p

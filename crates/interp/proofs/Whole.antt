@@ -1,7 +1,7 @@
 -- The whole part of a single x from 0 to 8193. x + 2 ^ 23 has no digits behind the point, so it is rounded to a whole number next to x;
 -- 2 ^ 23 comes off exactly, and so does 1 where the number is above x. Assumes nothing.
 use mathlib.Core.Path.{_≡_, refl, sym, ap, subst, _∙_}
-use mathlib.Core.Bool.{Bool, true, false, not, true≢false, _&&_}
+use mathlib.Core.Bool.{Bool, true, false, not, cond, true≢false, _&&_}
 use Prim.Native.Nat.{ℕ, zero, suc, _+_, _-_, _*_, _/_, _%_, _^_, _≤_, _<_, min}
 use native.Mathlib.Nat.{le-antisymm, mul-one, mul-comm, mul-right-comm, lt-of-mul-lt-mul-right, le-of-mul-le-mul-right, mul-le-mul-right, div-mul-le-self, div-lt-iff-lt-mul, le-trans, lt-of-le-of-lt}
 use native.Mathlib.Numerals.{add-one}
@@ -15,7 +15,7 @@ use lib.Ieee.Fits.{down-pos, round-fits, and-l, and-r}
 use lib.Ieee.Order.{round-mono}
 use lib.Ieee.Positive.{num, den, positive, between, own-value, values-of-le, positive-of-value}
 use lib.Ieee.{Float, nan, inf, fin, binary32, low, up, down, round, add, sub, sum, lt, le, eq, ofInt, ofBits, toUnsigned, fits}
-use Rattle.exact.specs.Single.{_⊕_, _⊖_, single, f1, f8193}
+use Rattle.exact.specs.Single.{_⊕_, _⊖_, single, f0, f1, f8193}
 use Rattle.exact.specs.Value.{plus}
 use Rattle.interp.proofs.Difference.{differ}
 use Rattle.interp.proofs.Range.{at-most}
@@ -192,3 +192,26 @@ stayed (fin false m e) p t l =
     let h = most m e t in
     let c = came-off m e h in
     c ∙ none-off m e h (subst (λ (y : Float). T (not (lt (fin false m e) y))) c (subst (λ (b : Bool). T (not b)) (sym l) tt)) ∙ ap single (cut m e h)
+
+-- by what the number next to x is too many
+less-none : (n : ℕ) → n ≤ 2 ^ 24 → single n ⊖ f0 ≡ single n
+unfolding ofInt ofBits
+less-none n h =
+    let e : n - 0 * 1 ≡ n = omega arith in
+    differ binary32 (single n) f0 n 1 0 (omega arith) (single-value n h) (refl, refl) (omega arith) ∙ ap (λ (k : ℕ). round binary32 false k 1) e
+
+cut-off : (x : Float) → T (plus x) → T (le x (f8193)) → (b : Bool) → lt x (x ⊕ unitAbove ⊖ unitAbove) ≡ b
+    → x ⊕ unitAbove ⊖ unitAbove ⊖ cond b f1 f0 ≡ single (toUnsigned 64 x)
+cut-off x p t true l = stepped x p t l
+cut-off x p t false l =
+    let e = stayed x p t l in
+    ap (λ (y : Float). y ⊖ f0) e ∙ less-none (toUnsigned 64 x) (le-trans (unsigned-most x p t) (omega arith))
+  where
+    unsigned-most : (x : Float) → T (plus x) → T (le x (f8193)) → toUnsigned 64 x ≤ 8193
+    unsigned-most nan p t = absurd p
+    unsigned-most (inf s) p t = absurd p
+    unsigned-most (fin true m e) p t = absurd p
+    unsigned-most (fin false m e) p t = subst (λ (k : ℕ). k ≤ 8193) (cut m e (most m e t)) (w-small m e (most m e t))
+
+pub cut-by : (x e : Float) → T (plus x) → T (le x (f8193)) → e ≡ cond (lt x (x ⊕ unitAbove ⊖ unitAbove)) f1 f0 → x ⊕ unitAbove ⊖ unitAbove ⊖ e ≡ single (toUnsigned 64 x)
+cut-by x e p t q = ap (λ (z : Float). x ⊕ unitAbove ⊖ unitAbove ⊖ z) q ∙ cut-off x p t (lt x (x ⊕ unitAbove ⊖ unitAbove)) refl

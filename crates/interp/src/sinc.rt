@@ -1,11 +1,12 @@
 // The windowed sinc, whose cutoff follows the playback step.
 ghost use mathlib.Core.Path.{_≡_};
+ghost use mathlib.Core.Bool.{cond};
 ghost use Prim.Native.Nat.{_+_, _*_, _≤_, min};
 ghost use lib.Dec.{T};
-ghost use lib.Ieee.{le, toUnsigned};
+ghost use lib.Ieee.{le, lt, toUnsigned};
 ghost use lib.ListN.{length};
 ghost use Rattle.exact.specs.Value.{plus};
-ghost use Rattle.exact.specs.Single.{single, f8193};
+ghost use Rattle.exact.specs.Single.{single, f0, f1, f8193};
 ghost use Rattle.interp.specs.Span.{ceiling, stretchOf, spanFor};
 ghost use Rattle.interp.specs.Sinc.{crossingsOf, meanOf, sincAt, leftOf, rightOf};
 ghost use Rattle.interp.specs.Places.{placeOf, tappedBy, Placed};
@@ -74,13 +75,20 @@ pub struct Pair {
     pub r: f32,
 }
 
+// What the whole number r next to x is too many.
+fn excess(r: f32, x: f32) -> f32
+    ensures { λ e. ⌜ e ≡ cond (lt x r) f1 f0 ⌝ }
+{
+    if r > x { 1.0 } else { 0.0 }
+}
+
 // x without its fraction. From 2^23 on singles are whole numbers, so that x + 2^23 is rounded to one; it may be one too many.
-fn whole(x: f32) -> f32
+pub fn whole(x: f32) -> f32
     requires { ⌜ T (plus x) × T (le x f8193) ⌝ }
     ensures { λ r. ⌜ r ≡ single (toUnsigned 64 x) ⌝ }
 {
     let r = x + 8388608.0 - 8388608.0;
-    if r > x { r - 1.0 } else { r }
+    r - excess(r, x)
 }
 
 // How far tap k lies from the position, in zero crossings.
@@ -153,7 +161,7 @@ fn tap_pair(s: PairSums, table: &[f32], i: u16, g: f32, x: f32, y: f32) -> PairS
 }
 
 // The sum over the sum of the weights.
-fn mean(acc: f32, wsum: f32) -> f32
+pub fn mean(acc: f32, wsum: f32) -> f32
     ensures { λ r. ⌜ r ≡ meanOf (record { acc = acc; wsum = wsum }) ⌝ }
 {
     if wsum != 0.0 { acc / wsum } else { 0.0 }
