@@ -26,8 +26,9 @@ for f in bench/port/*.antt.txt; do
 done
 printf '3 ' >"$work/crates/bench/stdout" # on no input: no sample
 { cat crates.txt; echo "bench: $(sed -n 's/^voice: //p' crates.txt) voice io libc"; } >"$work/crates.txt"
-(cd "$work" && rt check bench) >"$work/check.log" 2>&1 || { cat "$work/check.log" >&2; exit 1; }
 port=$work/target/bin/bench
+[ -x "$port" ] || rm -f target/stamp/bench
+(cd "$work" && rt check bench) >"$work/check.log" 2>&1 || { cat "$work/check.log" >&2; exit 1; }
 
 # The Rust's side and the driver: the oracle with one program more, which calls the port's own seven float functions.
 rt staticlib fx >&2
@@ -44,8 +45,8 @@ rustc --edition 2024 -O -C panic=abort --crate-type cdylib -o "$work/libcopies.s
 
 run() { "$voices" "$port" "$work" "$@" || status=1; }
 all() {
-    kept=$(git diff --quiet HEAD -- crates && echo "commit" || echo "changed after commit")
-    echo "Measured: crates/ of $kept $(git rev-parse --short HEAD), $rounds rounds;$(sed -n '/^model name/{s/.*://p;q}' /proc/cpuinfo), $(nproc) processors; $(rustc --version | cut -d' ' -f1,2)."
+    kept=$(git diff --quiet HEAD -- crates && echo "of commit" || echo "changed after commit")
+    echo "Measured: crates/ $kept $(git log -1 --format=%h -- crates), $rounds rounds;$(sed -n '/^model name/{s/.*://p;q}' /proc/cpuinfo), $(nproc) processors; $(rustc --version | cut -d' ' -f1,2)."
     printf '\n### Beside the Rust\n\n'
     run table "$rounds"
     printf '\n### Growth\n'

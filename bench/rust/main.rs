@@ -67,9 +67,9 @@ impl Sides {
         String::from_utf8_lossy(&said).lines().map(|l| l.split_once(' ').map(|(a, b)| (a.parse().unwrap(), b.parse().unwrap())).expect("two numbers")).collect()
     }
 }
-/// Instructions and copies a block.
+/// Time, the least of seven runs, instructions and copies a block.
 fn counts(s: &Sides) {
-    println!("| Load | Instructions | Copies | Bytes copied | Copies of 2,048 bytes and more: bytes × times |\n|---|---|---|---|---|");
+    println!("| Load | Port µs | Instructions | Copies | Bytes copied | Copies of 2,048 bytes and more: bytes × times |\n|---|---|---|---|---|---|");
     // a block of no frames is turned back by the first test: what passing session and voice in and out costs by itself
     let refused = Load { name: "refused".into(), frames: 0, ..named("idle").expect("a load") };
     let names = ["idle", "idle-480", "hermite-mono", "silent-32", "sinc-stereo-32", "edges-16x32-silent", "held-16x32-silent"];
@@ -78,10 +78,11 @@ fn counts(s: &Sides) {
         let blocks = r.timed as f64 * l.voices as f64;
         let i = (s.instructions(&l, r) - s.instructions(&l, Rounds { timed: 0, ..r })) / blocks;
         let c = s.copies(&l, r);
+        let least = (0..7).map(|_| s.port(&l, l.usual()).1).fold(f64::MAX, f64::min) / (l.rounds as f64 * l.voices as f64);
         let mut by_size = c[1..].to_vec();
         by_size.sort_by_key(|c| std::cmp::Reverse(c.0 * c.1));
         let sizes: Vec<String> = by_size.iter().map(|c| format!("{} × {}", c.0, short(c.1 as f64 / blocks))).collect();
-        println!("| {} | {i:.0} | {} | {:.0} | {} |", l.name, short(c[0].0 as f64 / blocks), c[0].1 as f64 / blocks, sizes.join(", "));
+        println!("| {} | {} | {i:.0} | {} | {:.0} | {} |", l.name, short(least), short(c[0].0 as f64 / blocks), c[0].1 as f64 / blocks, sizes.join(", "));
     }
 }
 /// Where the port's time goes, by samples of its functions.
