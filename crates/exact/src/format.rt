@@ -66,6 +66,30 @@ pub fn narrow(x: f64) -> f32
     }
 }
 
+// The pattern where b is that of a number from 2^-126 to 1.
+fn part_bits(b: u64) -> u32
+    requires { ⌜ (4039728865751334912 ≤ b) × (b ≤ 4607182418800017408) ⌝ }
+    ensures { λ r. ⌜ (Ieee.ofBits binary32 r ≡ narrowed (Ieee.ofBits binary64 b)) × (r ≤ 2139095040) ⌝ }
+{
+    (nearest_29(b) - 7516192768) as u32
+}
+
+// `narrow`, short enough to be compiled into its callers where x is most often from 2^-126 to 1.
+pub fn narrow_part(x: f64) -> f32
+    ensures { λ r. ⌜ r ≡ narrowed x ⌝ }
+{
+    if x != x {
+        return narrow(x);
+    }
+    let bits: u64 = f64::to_bits(x);
+    if bits >= 4039728865751334912 {
+        if bits <= 4607182418800017408 {
+            return f32::from_bits(part_bits(bits));
+        }
+    }
+    narrow(x)
+}
+
 // Rust's `x as f64`, a NaN too: every single is a double.
 pub fn widen(x: f32) -> f64
     ensures { λ r. ⌜ r ≡ x ⌝ }

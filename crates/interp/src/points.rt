@@ -1,7 +1,7 @@
 // The kernels of two and of four points.
 ghost use mathlib.Core.Path.{_≡_};
 ghost use Prim.Native.Nat.{_≤_};
-ghost use Rattle.interp.specs.Points.{weight3, frameAt, linearAt, hermiteAt};
+ghost use Rattle.interp.specs.Points.{nearWeight, farWeight, weight3, frameAt, linearAt, weightsAt, hermiteAt};
 use exact::order::abs_f32;
 
 // How many frames of silence a channel has in front: places count from there, so that none that a kernel draws on is below 0.
@@ -43,6 +43,76 @@ pub fn linear(frames: &[f32], n: usize, f: f32) -> f32
     a + f * (b - a)
 }
 
+// The weights of four frames.
+pub struct Weights {
+    pub a: f32,
+    pub b: f32,
+    pub c: f32,
+    pub d: f32,
+}
+
+// The weight below the distance 1.
+fn near_weight(d: f32) -> f32
+    ensures { λ r. ⌜ r ≡ nearWeight d ⌝ }
+{
+    let d2 = d * d;
+    let d3 = d2 * d;
+    1.0 - 2.5 * d2 + 1.5 * d3
+}
+
+// The weight from 1 to 2.
+fn far_weight(d: f32) -> f32
+    ensures { λ r. ⌜ r ≡ farWeight d ⌝ }
+{
+    let d2 = d * d;
+    let d3 = d2 * d;
+    2.0 - 4.0 * d + 2.5 * d2 - 0.5 * d3
+}
+
+// The weights of any f, one by one.
+fn each_weight(f: f32) -> Weights
+    ensures { λ r. ⌜ r ≡ weightsAt f ⌝ }
+{
+    Weights {
+        a: hermite3(-1.0 - f),
+        b: hermite3(-f),
+        c: hermite3(1.0 - f),
+        d: hermite3(2.0 - f),
+    }
+}
+
+// The weights around a position that lies f behind the second frame. Where f is a part of 1 it is known which side of 1 each
+// distance lies on: the machine then works the four out side by side.
+fn weigh(f: f32) -> Weights
+    ensures { λ r. ⌜ r ≡ weightsAt f ⌝ }
+{
+    let x = abs_f32(-1.0 - f);
+    let y = abs_f32(-f);
+    let z = abs_f32(1.0 - f);
+    let w = abs_f32(2.0 - f);
+    if x < 1.0 {
+        return each_weight(f);
+    }
+    if w < 1.0 {
+        return each_weight(f);
+    }
+    if x < 2.0 {
+        if w < 2.0 {
+            if y < 1.0 {
+                if z < 1.0 {
+                    return Weights {
+                        a: far_weight(x),
+                        b: near_weight(y),
+                        c: near_weight(z),
+                        d: far_weight(w),
+                    };
+                }
+            }
+        }
+    }
+    each_weight(f)
+}
+
 // The frames in the places n - 1 to n + 2, each by its weight.
 pub fn hermite(frames: &[f32], n: usize, f: f32) -> f32
     requires { ⌜ (42 ≤ n) × (n ≤ 8589934634) ⌝ }
@@ -52,5 +122,6 @@ pub fn hermite(frames: &[f32], n: usize, f: f32) -> f32
     let b = frame_at(frames, n);
     let c = frame_at(frames, n + 1);
     let d = frame_at(frames, n + 2);
-    hermite3(-1.0 - f) * a + hermite3(-f) * b + hermite3(1.0 - f) * c + hermite3(2.0 - f) * d
+    let w = weigh(f);
+    w.a * a + w.b * b + w.c * c + w.d * d
 }

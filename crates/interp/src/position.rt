@@ -3,7 +3,7 @@ ghost use mathlib.Core.Path.{_≡_};
 ghost use Prim.Native.Nat.{_≤_};
 ghost use lib.Ieee.{toUnsigned};
 ghost use Rattle.interp.specs.Position.{Position, floored, fraction, isWhole, looped};
-use exact::format::narrow;
+use exact::format::narrow_part;
 
 // The frame at or before a position. It is below 2^34: the remainder only tells the compiler so, for whom it is cheaper then
 // to make a double of it.
@@ -30,7 +30,7 @@ pub fn fraction(p: f64) -> f32
     requires { ⌜ Position p ⌝ }
     ensures { λ r. ⌜ r ≡ fraction p ⌝ }
 {
-    narrow(p - floor(p))
+    narrow_part(p - floor(p))
 }
 
 // Whether a position is a frame.

@@ -24,21 +24,12 @@ add-frame-at-2 c = search needs
 frame-at-requires-4 : tie.Need-frame-at-requires-4
 frame-at-requires-4 c κs = search needs
 
-hermite3-requires : tie.Need-hermite3-requires
-hermite3-requires c κs = search needs
-
-hermite3-requires-2 : tie.Need-hermite3-requires-2
-hermite3-requires-2 c κs = search needs
-
-hermite3-requires-3 : tie.Need-hermite3-requires-3
-hermite3-requires-3 c κs = search needs
-
-hermite3-requires-4 : tie.Need-hermite3-requires-4
-hermite3-requires-4 c κs = search needs
+weigh-requires : tie.Need-weigh-requires
+weigh-requires c κs = search needs
 
 returns : tie.Need-returns
 unfolding hermiteAt
-returns c = rw (c .hermite34 .ensures, c .before .hermite33 .ensures, c .before .before .hermite32 .ensures, c .before .before .before .hermite3 .ensures, c .before .before .before .before .frame-at4 .ensures, c .before .before .before .before .before .frame-at3 .ensures, c .before .before .before .before .before .before .frame-at2 .ensures, c .before .before .before .before .before .before .before .frame-at .ensures)
+returns c = rw (c .before .before .before .before .weigh .ensures, c .before .before .before .before .before .frame-at4 .ensures, c .before .before .before .before .before .before .frame-at3 .ensures, c .before .before .before .before .before .before .before .frame-at2 .ensures, c .before .before .before .before .before .before .before .before .frame-at .ensures)
 
 pub hermite-spec : {M : Type 1} → statement M
 hermite-spec =
@@ -51,8 +42,5 @@ hermite-spec =
     frame-at-requires-3
     add-frame-at-2
     frame-at-requires-4
-    hermite3-requires
-    hermite3-requires-2
-    hermite3-requires-3
-    hermite3-requires-4
+    weigh-requires
     returns)

@@ -6,12 +6,12 @@ use Rattle.interp.proofs.position.fraction.Tie as tie
 floor-requires : tie.Need-floor-requires
 floor-requires c κs = search needs
 
-narrow-requires : tie.Need-narrow-requires
-narrow-requires c κs = search needs
+narrow-part-requires : tie.Need-narrow-part-requires
+narrow-part-requires c κs = search needs
 
 returns : tie.Need-returns
 unfolding fraction
-returns c = rw (c .narrow .ensures, c .before .floor .ensures)
+returns c = rw (c .narrow-part .ensures, c .before .floor .ensures)
 
 pub fraction-spec : {M : Type 1} → statement M
-fraction-spec = tie.close (tie.spec floor-requires narrow-requires returns)
+fraction-spec = tie.close (tie.spec floor-requires narrow-part-requires returns)
