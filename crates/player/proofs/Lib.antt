@@ -1,3 +1,6 @@
+pub mod Behind
+pub mod Fours
+pub mod Kept
 pub mod Pitches
 pub mod Positions
 pub mod Reading

@@ -1,5 +1,6 @@
 pub mod Bounds
 pub mod Source
+pub mod Ahead
 pub mod Pitch
 pub mod Segment
 pub mod Start

@@ -1,16 +1,19 @@
 // A player's frames between two events, added to a part of each output.
 ghost use mathlib.Core.Path.{_≡_};
-ghost use mathlib.Core.Bool.{false};
+ghost use mathlib.Core.Bool.{true, false};
 ghost use Prim.Native.Nat.{_<_};
 ghost use lib.ListN.{length};
 ghost use Rattle.filter.specs.Filter.{AllStages};
 ghost use Rattle.interp.specs.Position.{Position};
 ghost use Rattle.player.specs.Bounds.{ColdOk, PlayerOk};
+ghost use Rattle.player.specs.Ahead.{Kept};
 ghost use Rattle.player.specs.Source.{Lent};
 ghost use Rattle.player.specs.Segment.{endsNow, fastOff, frameAfter, frameNext, added, share, Run, runFor, afterRun, wentOff, playedBy};
 use super::Cold;
 use super::Hot;
 use super::Player;
+use super::ahead::ahead;
+use super::ahead::suits;
 use super::source::Source;
 use super::source::read;
 use filter::FilterSlot;
@@ -82,8 +85,18 @@ fn frame_after(value: f32, was: bool, v: Source) -> Frame
 }
 
 // The next frame: the envelope's step first; during the delay the data wait.
-fn next_frame(hot: Hot, cold: Cold, a: &[f32], b: &[f32], table: &[f32]) -> Frame
-    requires { ⌜ ColdOk cold × Position (hot .pos) × (length (now table) ≡ 8194) ⌝ }
+fn next_frame(
+    hot: Hot,
+    cold: Cold,
+    a: &[f32],
+    b: &[f32],
+    table: &[f32],
+    qs: &[f64; 16],
+    ls: &[f32; 16],
+    rs: &[f32; 16],
+    i: usize,
+) -> Frame
+    requires { ⌜ ColdOk cold × Position (hot .pos) × (length (now table) ≡ 8194) × (i < 16) × Kept (cold .span) (cold .stereo) (record { a = now a; b = now b; table = now table }) (now qs) (now ls) (now rs) ⌝ }
     ensures { λ r. ⌜ (r ≡ frameNext cold (record { a = now (a .entry); b = now (b .entry); table = now (table .entry) }) hot) × Position (r .hot .pos) ⌝ }
 {
     let env = hot.env;
@@ -111,7 +124,7 @@ fn next_frame(hot: Hot, cold: Cold, a: &[f32], b: &[f32], table: &[f32]) -> Fram
             r: 0.0,
         };
     }
-    let v = read(h, cold, a, b, table);
+    let v = read(h, cold, a, b, table, qs, ls, rs, i);
     frame_after(s.value, hot.data_ended, v)
 }
 
@@ -129,7 +142,21 @@ fn add_at(out: &mut [f32], j: usize, x: f32)
     out[j] = out[j] + x;
 }
 
-// As many frames as both outputs have, added to them; they end early where the envelope is done.
+// Whether the frames that were read ahead are used up before frame j: every 16 frames, the first ones being read before the loop.
+fn due(suited: bool, j: usize) -> bool
+    ensures { λ r. ⌜ ((r ≡ true) → (suited ≡ true)) ⌝ }
+{
+    if suited {
+        if j % 16 == 0 {
+            return 0 < j;
+        }
+    }
+    false
+}
+
+// As many frames as both outputs have, added to them; they end early where the envelope is done. Every 16th reads ahead where
+// that can be; no position is -1.0, so at first nothing is kept. Reading ahead is called in two places and handed copies, so that the
+// compiler leaves it out of the loop and `h` and `cold` in registers.
 fn frames(
     hot: Hot,
     cold: Cold,
@@ -145,10 +172,25 @@ fn frames(
     ensures { λ h. ⌜ ((record { hot = h; states = now (states .exit); left = now («out_l» .exit); right = now («out_r» .exit) }) ≡ afterRun (runFor cold slots (record { a = now (a .entry); b = now (b .entry); table = now (table .entry) }) (length (now («out_l» .entry))) (record { hot = hot; states = now (states .entry); left = now («out_l» .entry); right = now («out_r» .entry); done = false }))) × Position (h .pos) ⌝ }
 {
     let n = out_l.len();
+    let mut qs = [-1.0f64; 16];
+    let mut ls = [0.0f32; 16];
+    let mut rs = [0.0f32; 16];
+    let suited = suits(cold, a, b);
+    if suited {
+        let g = hot;
+        let c = cold;
+        ahead(g, c, a, b, table, n, &mut qs, &mut ls, &mut rs);
+    }
     let mut h = hot;
     let mut j = 0usize;
     while j < n {
-        let f = next_frame(h, cold, a, b, table);
+        let at = j % 16;
+        if due(suited, j) {
+            let g = h;
+            let c = cold;
+            ahead(g, c, a, b, table, n - j, &mut qs, &mut ls, &mut rs);
+        }
+        let f = next_frame(h, cold, a, b, table, &qs, &ls, &rs, at);
         let g = f.hot;
         h = g;
         if f.done {

@@ -1,16 +1,18 @@
 // One frame of a player's sample, before its filters.
 ghost use mathlib.Core.Path.{_≡_};
-ghost use Prim.Native.Nat.{_≤_};
+ghost use Prim.Native.Nat.{_≤_, _<_};
 ghost use lib.Dec.{T};
 ghost use lib.Ieee.{le};
 ghost use lib.ListN.{length};
 ghost use Rattle.interp.specs.Position.{Position, furthest};
 ghost use Rattle.player.specs.Bounds.{LoopOk, Wrapped, ColdOk};
+ghost use Rattle.player.specs.Ahead.{Kept};
 ghost use Rattle.player.specs.Source.{Lent, currentLoop, placeIn, atEnd, isUnity, storedAt, frameOf, sCurve, fadeOf, inFade, faded, crossfaded, readFrame};
 use super::Cold;
 use super::Hot;
 use super::LoopRt;
 use super::MaybeLoop;
+use super::ahead::known;
 use elementary::trig::cos;
 use envelope::Env;
 use exact::format::narrow;
@@ -52,7 +54,7 @@ pub fn looping(env: Env, mode: LoopMode, lp: MaybeLoop) -> MaybeLoop
 }
 
 // The position in the loop.
-fn place(lp: MaybeLoop, pos: f64) -> f64
+pub fn place(lp: MaybeLoop, pos: f64) -> f64
     requires { ⌜ LoopOk lp × Position pos ⌝ }
     ensures { λ r. ⌜ (r ≡ placeIn lp pos) × Position r × Wrapped lp r ⌝ }
 {
@@ -97,7 +99,7 @@ fn stored_frame(stereo: bool, a: &[f32], b: &[f32], p: f64) -> Pair
     Pair { l, r: 0.0 }
 }
 
-// Both channels at the position p: as stored, or by the kernel.
+// Both channels at the position p: as stored, as read ahead and kept in place i, or by the kernel.
 fn frame(
     kind: Interp,
     span: SincSpan,
@@ -107,12 +109,19 @@ fn frame(
     table: &[f32],
     stored: bool,
     p: f64,
+    qs: &[f64; 16],
+    ls: &[f32; 16],
+    rs: &[f32; 16],
+    i: usize,
 ) -> Pair
-    requires { ⌜ Position p × (length (now table) ≡ 8194) × (span .half ≤ 40) ⌝ }
+    requires { ⌜ Position p × (length (now table) ≡ 8194) × (span .half ≤ 40) × (i < 16) × Kept span stereo (record { a = now a; b = now b; table = now table }) (now qs) (now ls) (now rs) ⌝ }
     ensures { λ r. ⌜ r ≡ frameOf kind span stereo (record { a = now (a .entry); b = now (b .entry); table = now (table .entry) }) stored p ⌝ }
 {
     if stored {
         return stored_frame(stereo, a, b, p);
+    }
+    if known(kind, qs, i, p) {
+        return Pair { l: ls[i], r: rs[i] };
     }
     read_pair(kind, a, b, stereo, p, table, span)
 }
@@ -229,9 +238,19 @@ fn crossfade(
     }
 }
 
-// One frame of the sample, and the position after it.
-pub fn read(hot: Hot, cold: Cold, a: &[f32], b: &[f32], table: &[f32]) -> Source
-    requires { ⌜ ColdOk cold × Position (hot .pos) × (length (now table) ≡ 8194) ⌝ }
+// One frame of the sample, and the position after it. It may be kept in place i.
+pub fn read(
+    hot: Hot,
+    cold: Cold,
+    a: &[f32],
+    b: &[f32],
+    table: &[f32],
+    qs: &[f64; 16],
+    ls: &[f32; 16],
+    rs: &[f32; 16],
+    i: usize,
+) -> Source
+    requires { ⌜ ColdOk cold × Position (hot .pos) × (length (now table) ≡ 8194) × (i < 16) × Kept (cold .span) (cold .stereo) (record { a = now a; b = now b; table = now table }) (now qs) (now ls) (now rs) ⌝ }
     ensures { λ r. ⌜ (r ≡ readFrame cold (record { a = now (a .entry); b = now (b .entry); table = now (table .entry) }) hot) × Position (r .hot .pos) ⌝ }
 {
     if cold.silent {
@@ -266,7 +285,20 @@ pub fn read(hot: Hot, cold: Cold, a: &[f32], b: &[f32], table: &[f32]) -> Source
     let kind = cold.interp;
     let span = cold.span;
     let stored = unity(cold.step, p);
-    let v = frame(kind, span, cold.stereo, a, b, table, stored, p);
+    let v = frame(
+        kind,
+        span,
+        cold.stereo,
+        a,
+        b,
+        table,
+        stored,
+        p,
+        qs,
+        ls,
+        rs,
+        i,
+    );
     let w = crossfade(cold, a, b, table, lp, stored, p, v);
     h.pos = p + cold.step;
     Source {

@@ -1,0 +1,157 @@
+use mathlib.Core.Path.{refl}
+use native.Mathlib.Omega.{arith}
+use Rattle.player.proofs.Kept.{keeps}
+use Rattle.player.proofs.Fours.{Begun, Doubles, all-parts, in-frames, both-read, mono-read}
+use borrow.Author.Needs.{needs}
+use Rattle.player.proofs.ahead.four.Statement.{statement}
+use Rattle.player.proofs.ahead.four.Tie as tie
+
+begun : (c : tie.After-fraction4) → Begun (c .before .before .before .before .before .before .before .before .before .before .before .before .before .args .cold .span .half) (c .before .before .before .before .before .before .before .before .before .before .before .before .before .args .x) (record { n0 = c .before .before .before .before .before .before .before .start-at .result; n1 = c .before .before .before .before .before .before .start-at2 .result; n2 = c .before .before .before .before .before .start-at3 .result; n3 = c .before .before .before .before .start-at4 .result }) (record { x0 = c .before .before .before .fraction .result; x1 = c .before .before .fraction2 .result; x2 = c .before .fraction3 .result; x3 = c .fraction4 .result })
+begun c = record {
+  n0 = c .before .before .before .before .before .before .before .start-at .ensures;
+  n1 = c .before .before .before .before .before .before .start-at2 .ensures;
+  n2 = c .before .before .before .before .before .start-at3 .ensures;
+  n3 = c .before .before .before .before .start-at4 .ensures;
+  f0 = c .before .before .before .fraction .ensures;
+  f1 = c .before .before .fraction2 .ensures;
+  f2 = c .before .fraction3 .ensures;
+  f3 = c .fraction4 .ensures;
+}
+
+doubles : (c : tie.Start) → Doubles (c .args .x)
+doubles c = record { p0 = search needs; p1 = search needs; p2 = search needs; p3 = search needs }
+
+cast-h : tie.Need-cast-h
+cast-h c = search needs
+
+start-at-requires : tie.Need-start-at-requires
+start-at-requires c κs = search needs
+
+start-at-requires-2 : tie.Need-start-at-requires-2
+start-at-requires-2 c κs = search needs
+
+start-at-requires-3 : tie.Need-start-at-requires-3
+start-at-requires-3 c κs = search needs
+
+start-at-requires-4 : tie.Need-start-at-requires-4
+start-at-requires-4 c κs = search needs
+
+fraction-requires : tie.Need-fraction-requires
+fraction-requires c κs = search needs
+
+fraction-requires-2 : tie.Need-fraction-requires-2
+fraction-requires-2 c κs = search needs
+
+fraction-requires-3 : tie.Need-fraction-requires-3
+fraction-requires-3 c κs = search needs
+
+fraction-requires-4 : tie.Need-fraction-requires-4
+fraction-requires-4 c κs = search needs
+
+sinc-four-pair-requires : tie.Need-sinc-four-pair-requires
+sinc-four-pair-requires c κs =
+    let p = c .before .before .before .before .before .before .before .before .before .before .before .before .before .before .before .before .pre in
+    let b = begun (c .before .before .before) in
+    (p .4, p .2 .inside, all-parts _ _ _ _ _ b (p .1) (p .2 .inside .least) (p .0), in-frames _ _ _ _ _ b (p .1) _ refl, in-frames _ _ _ _ _ b (p .1) _ (p .2 .same (c .before .before .if1 .taken)), p .5, p .6)
+
+keep-requires : tie.Need-keep-requires
+keep-requires c κs = omega (arith, c .before .before .before .before .before .before .before .before .before .before .before .before .before .before .before .before .before .before .before .before .before .before .pre .3)
+
+add-keep : tie.Need-add-keep
+add-keep c = omega (arith, c .before .before .before .before .before .before .before .before .before .before .before .before .before .before .before .before .before .before .before .before .before .before .before .before .before .before .pre .3)
+
+keep-requires-2 : tie.Need-keep-requires-2
+keep-requires-2 c κs = omega (arith, c .before .before .before .before .before .before .before .before .before .before .before .before .before .before .before .before .before .before .before .before .before .before .before .before .before .before .pre .3)
+
+add-keep-2 : tie.Need-add-keep-2
+add-keep-2 c = omega (arith, c .before .before .before .before .before .before .before .before .before .before .before .before .before .before .before .before .before .before .before .before .before .before .before .before .before .before .before .before .before .before .pre .3)
+
+keep-requires-3 : tie.Need-keep-requires-3
+keep-requires-3 c κs = omega (arith, c .before .before .before .before .before .before .before .before .before .before .before .before .before .before .before .before .before .before .before .before .before .before .before .before .before .before .before .before .before .before .pre .3)
+
+add-keep-3 : tie.Need-add-keep-3
+add-keep-3 c = omega (arith, c .before .before .before .before .before .before .before .before .before .before .before .before .before .before .before .before .before .before .before .before .before .before .before .before .before .before .before .before .before .before .before .before .before .before .pre .3)
+
+keep-requires-4 : tie.Need-keep-requires-4
+keep-requires-4 c κs = omega (arith, c .before .before .before .before .before .before .before .before .before .before .before .before .before .before .before .before .before .before .before .before .before .before .before .before .before .before .before .before .before .before .before .before .before .before .pre .3)
+
+sinc-four-requires : tie.Need-sinc-four-requires
+sinc-four-requires c κs =
+    let p = c .before .before .before .before .before .before .before .before .before .before .before .before .before .before .before .before .pre in
+    let b = begun (c .before .before .before) in
+    (p .4, p .2 .inside, all-parts _ _ _ _ _ b (p .1) (p .2 .inside .least) (p .0), in-frames _ _ _ _ _ b (p .1) _ refl, p .5, p .6)
+
+keep-requires-5 : tie.Need-keep-requires-5
+keep-requires-5 c κs = omega (arith, c .before .before .before .before .before .before .before .before .before .before .before .before .before .before .before .before .before .before .before .before .pre .3)
+
+add-keep-4 : tie.Need-add-keep-4
+add-keep-4 c = omega (arith, c .before .before .before .before .before .before .before .before .before .before .before .before .before .before .before .before .before .before .before .before .before .before .before .before .pre .3)
+
+keep-requires-6 : tie.Need-keep-requires-6
+keep-requires-6 c κs = omega (arith, c .before .before .before .before .before .before .before .before .before .before .before .before .before .before .before .before .before .before .before .before .before .before .before .before .pre .3)
+
+add-keep-5 : tie.Need-add-keep-5
+add-keep-5 c = omega (arith, c .before .before .before .before .before .before .before .before .before .before .before .before .before .before .before .before .before .before .before .before .before .before .before .before .before .before .before .before .pre .3)
+
+keep-requires-7 : tie.Need-keep-requires-7
+keep-requires-7 c κs = omega (arith, c .before .before .before .before .before .before .before .before .before .before .before .before .before .before .before .before .before .before .before .before .before .before .before .before .before .before .before .before .pre .3)
+
+add-keep-6 : tie.Need-add-keep-6
+add-keep-6 c = omega (arith, c .before .before .before .before .before .before .before .before .before .before .before .before .before .before .before .before .before .before .before .before .before .before .before .before .before .before .before .before .before .before .before .before .pre .3)
+
+keep-requires-8 : tie.Need-keep-requires-8
+keep-requires-8 c κs = omega (arith, c .before .before .before .before .before .before .before .before .before .before .before .before .before .before .before .before .before .before .before .before .before .before .before .before .before .before .before .before .before .before .before .before .pre .3)
+
+returns : tie.Need-returns
+returns c =
+    let p = c .before .before .before .before .before .before .before .before .before .before .before .before .before .before .before .before .before .before .before .before .before .before .before .before .before .before .before .before .before .before .before .before .before .before .before .pre in
+    let v = c .before .before .before .before .before .before .before .before .before .before .before .before .before .before .before .before .before .before .sinc-four-pair .ensures in
+    let w = both-read _ _ _ _ _ _ _ _ (p .2 .inside .least) (doubles (c .before .before .before .before .before .before .before .before .before .before .before .before .before .before .before .before .before .before .before .before .before .before .before .before .before .before .before .before .before .before .before .before .before .before .before)) (p .0) (begun (c .before .before .before .before .before .before .before .before .before .before .before .before .before .before .before .before .before .before .before .before .before .before)) (p .1) (v .0) _ (c .before .before .before .before .before .before .before .before .before .before .before .before .before .before .before .before .before .before .before .before .before .if1 .taken) (v .1) in
+    let b = p .3 in
+    let k0 = keeps _ _ _ _ _ _ _ _ _ _ _ _ _ (omega (arith, b)) (w .r0) (c .before .before .before .before .before .before .before .before .before .before .before .before .keep .ensures .0) (c .before .before .before .before .before .before .before .before .before .before .before .before .keep .ensures .1) (c .before .before .before .before .before .before .before .before .before .before .before .before .keep .ensures .2) (p .7) in
+    let k1 = keeps _ _ _ _ _ _ _ _ _ _ _ _ _ (omega (arith, b)) (w .r1) (c .before .before .before .before .before .before .before .before .keep2 .ensures .0) (c .before .before .before .before .before .before .before .before .keep2 .ensures .1) (c .before .before .before .before .before .before .before .before .keep2 .ensures .2) k0 in
+    let k2 = keeps _ _ _ _ _ _ _ _ _ _ _ _ _ (omega (arith, b)) (w .r2) (c .before .before .before .before .keep3 .ensures .0) (c .before .before .before .before .keep3 .ensures .1) (c .before .before .before .before .keep3 .ensures .2) k1 in
+    (v .2, v .3, keeps _ _ _ _ _ _ _ _ _ _ _ _ _ (omega (arith, b)) (w .r3) (c .keep4 .ensures .0) (c .keep4 .ensures .1) (c .keep4 .ensures .2) k2)
+
+returns-2 : tie.Need-returns-2
+returns-2 c =
+    let p = c .before .before .before .before .before .before .before .before .before .before .before .before .before .before .before .before .before .before .before .before .before .before .before .before .before .before .before .before .before .before .before .before .before .pre in
+    let v = c .before .before .before .before .before .before .before .before .before .before .before .before .before .before .before .before .sinc-four .ensures in
+    let w = mono-read _ _ _ _ _ _ _ _ (p .2 .inside .least) (doubles (c .before .before .before .before .before .before .before .before .before .before .before .before .before .before .before .before .before .before .before .before .before .before .before .before .before .before .before .before .before .before .before .before .before)) (p .0) (begun (c .before .before .before .before .before .before .before .before .before .before .before .before .before .before .before .before .before .before .before .before)) (p .1) (v .0) (c .before .before .before .before .before .before .before .before .before .before .before .before .before .before .before .before .before .before .before .if1 .left) in
+    let b = p .3 in
+    let k0 = keeps _ _ _ _ _ _ _ _ _ _ _ _ _ (omega (arith, b)) (w .r0) (c .before .before .before .before .before .before .before .before .before .before .before .before .keep5 .ensures .0) (c .before .before .before .before .before .before .before .before .before .before .before .before .keep5 .ensures .1) (c .before .before .before .before .before .before .before .before .before .before .before .before .keep5 .ensures .2) (p .7) in
+    let k1 = keeps _ _ _ _ _ _ _ _ _ _ _ _ _ (omega (arith, b)) (w .r1) (c .before .before .before .before .before .before .before .before .keep6 .ensures .0) (c .before .before .before .before .before .before .before .before .keep6 .ensures .1) (c .before .before .before .before .before .before .before .before .keep6 .ensures .2) k0 in
+    let k2 = keeps _ _ _ _ _ _ _ _ _ _ _ _ _ (omega (arith, b)) (w .r2) (c .before .before .before .before .keep7 .ensures .0) (c .before .before .before .before .keep7 .ensures .1) (c .before .before .before .before .keep7 .ensures .2) k1 in
+    (v .1, v .2, keeps _ _ _ _ _ _ _ _ _ _ _ _ _ (omega (arith, b)) (w .r3) (c .keep8 .ensures .0) (c .keep8 .ensures .1) (c .keep8 .ensures .2) k2)
+
+pub four-spec : {M : Type 1} → statement M
+four-spec =
+    tie.close
+    (tie.spec
+    cast-h
+    start-at-requires
+    start-at-requires-2
+    start-at-requires-3
+    start-at-requires-4
+    fraction-requires
+    fraction-requires-2
+    fraction-requires-3
+    fraction-requires-4
+    sinc-four-pair-requires
+    keep-requires
+    add-keep
+    keep-requires-2
+    add-keep-2
+    keep-requires-3
+    add-keep-3
+    keep-requires-4
+    sinc-four-requires
+    keep-requires-5
+    add-keep-4
+    keep-requires-6
+    add-keep-5
+    keep-requires-7
+    add-keep-6
+    keep-requires-8
+    returns
+    returns-2)
