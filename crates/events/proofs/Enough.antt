@@ -5,8 +5,7 @@ use mathlib.Core.Path.{_≡_, refl, sym, ap, _∙_}
 use mathlib.Core.Bool.{Bool, true, false, not, _&&_}
 use mathlib.Core.List.{List, [], _∷_, _++_, map, foldl}
 use native.Mathlib.Omega.{arith}
-use lib.ListN.{length, take, drop, length-append, length-map}
-use lib.Seq.{take-append-seam}
+use lib.ListN.{length, length-append, length-map}
 use lib.Dec.{ltb, leb}
 use borrow.Author.Tests.{leb-false, ltb-true}
 use Rattle.players.specs.Gate.{offedSlot}
@@ -15,9 +14,10 @@ use Rattle.players.specs.declared.Offed.{Offed}
 use Rattle.session.proofs.Laws.{along-length, first-along, marks-along, slots-marks}
 use Rattle.session.proofs.Relist.{view-few}
 use Rattle.session.proofs.Voices.{keep-fewer}
-use Rattle.session.proofs.Walks.{keep-append, used-small}
+use Rattle.session.proofs.Starts.{view-put}
+use Rattle.session.proofs.Walks.{keep-append}
 use Rattle.session.specs.Changes.{Along, end, one, Marked, unchanged, newly}
-use Rattle.session.specs.Lists.{pick, keep, any, packed, changeFirst}
+use Rattle.session.specs.Lists.{pick, keep, any, changeFirst}
 use Rattle.session.specs.Offs.{firstOf, offOf, offTimes, tookFirst}
 use Rattle.session.specs.Records.{collected, entered, inSlots, isSet, ofVoice, waits}
 use Rattle.session.specs.Rules.{collectFirst, countOf, enter, slotsOf, startMarks, withoutSlots}
@@ -128,9 +128,6 @@ module _ (v : ℕ) where
         → weigh v r + weight v rs ≤ 2 * length (pick t (r ∷ keep (ofVoice v) rs) (keep (ofVoice v) rs))
     by-case true a b = omega arith
     by-case false a b = omega arith
-
-view-put : (s : Session) (ks : List PlayerRecord) → length ks ≤ 512 → view (relist ks s) ≡ ks
-view-put s ks h = ap (λ (n : ℕ). take n (packed ks (s .players))) (used-small 512 (length ks) h) ∙ take-append-seam ks (drop (length ks) (s .players))
 
 enter-few : (r : PlayerRecord) (rs : List PlayerRecord) → length rs ≤ 512 → length (enter r rs) ≤ 512
 unfolding enter

@@ -86,8 +86,11 @@ unfoldable pub playerOf : Kit → NoteState → Cause → SampleVoice → ℕ �
 playerOf k n c v i = playerFrom k (regionAt (k .words) i) i n c (v .«next_slot») (v .«sample_rate»)
 
 -- one dropped start more; the counter rests at 4,294,967,295
+abbrev pub oneMoreDropped : ℕ → ℕ
+oneMoreDropped n = pick (ltb n 4294967295) (n + 1) n
+
 abbrev pub droppedOne : SampleVoice → SampleVoice
-droppedOne v = withDropped (pick (ltb (v .dropped) 4294967295) (v .dropped + 1) (v .dropped)) v
+droppedOne v = withDropped (oneMoreDropped (v .dropped)) v
 
 abbrev pub startIn : Kit → NoteState → Cause → SampleVoice → ℕ → Start
 startIn k n c v i = startOf (regionAt (k .words) i) i (v .voice) n c

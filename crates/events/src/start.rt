@@ -1,14 +1,16 @@
-// Regions start: the Rust's `start_region`, for one region and for those chosen, and its `dispatch_release`.
+// Regions start: the Rust's `start_region`, for all those chosen, and its `dispatch_release`.
 ghost use mathlib.Core.Path.{_≡_};
-ghost use Prim.Native.Nat.{_<_, _≤_};
+ghost use Prim.Native.Nat.{ℕ, _≤_};
+ghost use mathlib.Core.List.{List};
 ghost use lib.Dec.{T};
 ghost use Rattle.program.specs.Valid.{loopInOrder};
 ghost use Rattle.session.specs.Lists.{usedOf};
 ghost use Rattle.player.specs.Bounds.{PlayerOk};
 ghost use Rattle.players.specs.Seats.{PlayersOk};
+ghost use Rattle.session.specs.declared.Session.{Session};
 ghost use Rattle.note.specs.Choice.{chosenList};
 ghost use Rattle.events.specs.Voice.{Kit, Bindable};
-ghost use Rattle.events.specs.Start.{offByIn, limitIn, startOf, curveFor, playerFrom, droppedOne, joinedBy, startedRegion, startedAll, heldFor, releasesFired, dispatchedRelease};
+ghost use Rattle.events.specs.Start.{offByIn, limitIn, startOf, curveFor, playerFrom, oneMoreDropped, startedAll, heldFor, releasesFired, dispatchedRelease};
 use super::Both;
 use super::Cause;
 use super::SampleVoice;
@@ -23,7 +25,6 @@ use player::Player;
 use player::start::Event;
 use player::start::Note;
 use player::start::start;
-use players::push;
 use program::curve::velcurve;
 use program::region::MaybeU32;
 use program::region::Region;
@@ -32,9 +33,8 @@ use program::sample::sample_at;
 use session::Limit;
 use session::Session;
 use session::Start;
-use session::enter_record;
 use session::next_serial;
-use session::start_marks;
+use session::start_one;
 
 // ---- what a start reads of its region
 
@@ -127,75 +127,6 @@ fn player_of(
     start(region, sample, curve, note, event, sr)
 }
 
-// ---- one region
-
-// One dropped start more.
-fn drop_one(v: SampleVoice) -> SampleVoice
-    ensures { λ r. ⌜ r ≡ droppedOne v ⌝ }
-{
-    let n = v.dropped;
-    let mut w = v;
-    if n < 0xffff_ffff {
-        w.dropped = n + 1;
-    }
-    w
-}
-
-// The player takes its place, and the next slot moves.
-fn join(v: SampleVoice, p: Player) -> SampleVoice
-    requires { ⌜ PlayersOk (v .players) × (v .players .count < 32) × PlayerOk p ⌝ }
-    ensures { λ r. ⌜ (r ≡ joinedBy p v) × PlayersOk (r .players) ⌝ }
-{
-    let ps = v.players;
-    let slot = std::num::wrapping_add_u32(v.next_slot, 1);
-    let more = push(ps, p);
-    let mut w = v;
-    w.players = more;
-    w.next_slot = slot;
-    w
-}
-
-// Region `ri` starts: chokes and polyphony limits first; a voice that holds 32 players drops it.
-pub fn start_region(
-    s: Session,
-    v: SampleVoice,
-    words: &[u32],
-    samples: &[u32],
-    ri: u32,
-    ns: NoteState,
-    c: Cause,
-) -> Both
-    requires { ⌜ PlayersOk (v .players) × Bindable (now words) ⌝ }
-    ensures { λ r. ⌜ (r ≡ startedRegion (record { words = now (words .entry); samples = now (samples .entry) }) ns c (record { session = s; voice = v }) ri) × PlayersOk (r .voice .players) ⌝ }
-{
-    let region = region_at(words, ri);
-    let st = start_of(region, ri, v.voice, ns, c);
-    let marked = start_marks(s, st);
-    if 32 <= v.players.count {
-        let w = drop_one(v);
-        return Both {
-            session: marked,
-            voice: w,
-        };
-    }
-    let p = player_of(
-        words,
-        samples,
-        region,
-        ri,
-        ns,
-        c,
-        v.next_slot,
-        v.sample_rate,
-    );
-    let entered = enter_record(marked, st, v.next_slot);
-    let w = join(v, p);
-    Both {
-        session: entered,
-        voice: w,
-    }
-}
-
 // ---- the regions chosen
 
 // How many places are in use: the count, but never past the array.
@@ -205,7 +136,86 @@ fn used(count: usize) -> usize
     if count < 256 { count } else { 256 }
 }
 
-// The regions start in turn.
+// One dropped start more.
+fn drop_one(n: u32) -> u32
+    ensures { λ r. ⌜ r ≡ oneMoreDropped n ⌝ }
+{
+    if n < 0xffff_ffff { n + 1 } else { n }
+}
+
+// The session's part of the starts: chokes and polyphony limits first, then the record, where the voice has room. Of the voice it needs
+// no more than its id, its next slot and how many players it has.
+fn start_sessions(
+    s: Session,
+    v: SampleVoice,
+    words: &[u32],
+    chosen: Chosen,
+    ns: NoteState,
+    c: Cause,
+) -> Session
+    ensures { λ r. ⌜ ((samples : List ℕ) → r ≡ startedAll (record { words = now (words .entry); samples = samples }) ns c (chosenList chosen) (record { session = s; voice = v }) .session) ⌝ }
+{
+    let n = used(chosen.count);
+    let id = v.voice;
+    let mut count = v.players.count;
+    let mut slot = v.next_slot;
+    let mut t = s;
+    let mut i: usize = 0;
+    while i < n {
+        let ri = chosen.regions[i];
+        let region = region_at(words, ri);
+        let st = start_of(region, ri, id, ns, c);
+        let room = count < 32;
+        t = start_one(t, st, room, slot);
+        if room {
+            count += 1;
+            slot = std::num::wrapping_add_u32(slot, 1);
+        }
+        i += 1;
+    }
+    t
+}
+
+// The voice's part: each player takes the next place and the next slot; a voice that holds 32 drops the start. The players are stored
+// in place: a call over them would copy them at each start.
+fn start_players(
+    v: SampleVoice,
+    words: &[u32],
+    samples: &[u32],
+    chosen: Chosen,
+    ns: NoteState,
+    c: Cause,
+) -> SampleVoice
+    requires { ⌜ PlayersOk (v .players) × Bindable (now words) ⌝ }
+    ensures { λ r. ⌜ ((s : Session) → r ≡ startedAll (record { words = now (words .entry); samples = now (samples .entry) }) ns c (chosenList chosen) (record { session = s; voice = v }) .voice) × PlayersOk (r .players) ⌝ }
+{
+    let n = used(chosen.count);
+    let mut ps = v.players;
+    let mut next = v.next_slot;
+    let mut dropped = v.dropped;
+    let mut i: usize = 0;
+    while i < n {
+        let ri = chosen.regions[i];
+        let at = ps.count;
+        if at < 32 {
+            let region = region_at(words, ri);
+            let p = player_of(words, samples, region, ri, ns, c, next, v.sample_rate);
+            ps.players[at] = p;
+            ps.count = at + 1;
+            next = std::num::wrapping_add_u32(next, 1);
+        } else {
+            dropped = drop_one(dropped);
+        }
+        i += 1;
+    }
+    let mut w = v;
+    w.players = ps;
+    w.next_slot = next;
+    w.dropped = dropped;
+    w
+}
+
+// The regions start in turn: in the session, and then in the voice, since neither part looks at what the other has changed.
 pub fn start_all(
     s: Session,
     v: SampleVoice,
@@ -218,20 +228,9 @@ pub fn start_all(
     requires { ⌜ PlayersOk (v .players) × Bindable (now words) ⌝ }
     ensures { λ r. ⌜ (r ≡ startedAll (record { words = now (words .entry); samples = now (samples .entry) }) ns c (chosenList chosen) (record { session = s; voice = v })) × PlayersOk (r .voice .players) ⌝ }
 {
-    let n = used(chosen.count);
-    let mut b = Both {
-        session: s,
-        voice: v,
-    };
-    let mut i: usize = 0;
-    while i < n {
-        let ri = chosen.regions[i];
-        let t = b.session;
-        let w = b.voice;
-        b = start_region(t, w, words, samples, ri, ns, c);
-        i += 1;
-    }
-    b
+    let session = start_sessions(s, v, words, chosen, ns, c);
+    let voice = start_players(v, words, samples, chosen, ns, c);
+    Both { session, voice }
 }
 
 // ---- a note's release regions

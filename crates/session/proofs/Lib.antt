@@ -4,6 +4,7 @@ pub mod Search
 pub mod Packing
 pub mod Relist
 pub mod Yield
+pub mod Starts
 pub mod Voices
 pub mod OffTimes
 pub mod Matching

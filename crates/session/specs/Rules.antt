@@ -1,6 +1,6 @@
 -- The rules of the session's list, on the records in use in their order.
 use Prim.Native.Nat.{ℕ, zero, suc, _-_}
-use mathlib.Core.Bool.{Bool, not}
+use mathlib.Core.Bool.{Bool, true, false, not, _||_}
 use mathlib.Core.List.{List, [], _∷_, _++_, map, foldl}
 use lib.ListN.{length}
 use lib.Dec.{ltb, leb, eqb}
@@ -13,7 +13,7 @@ use Rattle.session.specs.declared.Start.{Start}
 use Rattle.session.specs.declared.Victim.{Victim}
 use Rattle.session.specs.declared.Victim.the-variants.{Nobody, Sounding}
 use Rattle.session.specs.Lists.{pick, keep, changeIf, changeWhere, changeFirst}
-use Rattle.session.specs.Records.{marked, ended, collected, chokedBy, sharesNote, mayYield, ofRegion, isSister, quieter, older, ofVoice, inSlots, waits}
+use Rattle.session.specs.Records.{marked, ended, collected, entered, chokedBy, sharesNote, mayYield, ofRegion, isSister, quieter, older, ofVoice, inSlots, waits}
 
 -- ---- what a starting region marks
 
@@ -104,11 +104,23 @@ polyphony st rs = limitRegion (st .polyphony) st rs
 unfoldable pub startMarks : Start → List PlayerRecord → List PlayerRecord
 startMarks st rs = polyphony st (notePolyphony st (choke st rs))
 
+-- whether there is a limit, and whether the start has one
+abbrev pub isLimit : Limit → Bool
+isLimit Unlimited = false
+isLimit (Most n) = true
+
+unfoldable pub isLimited : Start → Bool
+isLimited st = isLimit (st .«note_polyphony») || isLimit (st .polyphony)
+
 -- ---- entering and removing
 
 -- one more record at the end. A list of 512 stays as it is
 unfoldable pub enter : PlayerRecord → List PlayerRecord → List PlayerRecord
 enter r rs = pick (ltb (length rs) 512) (rs ++ (r ∷ [])) rs
+
+-- what a starting region marks, and then, where its voice has room, its record in this slot at the end
+unfoldable pub startOne : Start → Bool → ℕ → List PlayerRecord → List PlayerRecord
+startOne st room slot rs = pick room (enter (entered st slot) (startMarks st rs)) (startMarks st rs)
 
 -- without the voice's records, the others in their order
 unfoldable pub withoutVoice : ℕ → List PlayerRecord → List PlayerRecord

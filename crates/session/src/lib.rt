@@ -7,7 +7,7 @@ ghost use mathlib.Core.List.{[]};
 ghost use lib.ListN.{getD, drop, length};
 ghost use Rattle.session.specs.Lists.{usedOf, keep, elem, twice};
 ghost use Rattle.session.specs.Records.{marked, ended, collected, entered, sameZ, offByIs, sharesBoth, chokedBy, sharesNote, mayYield, ofRegion, isSister, quieter, older, ofVoice, inSlots, waits, inWindow};
-ghost use Rattle.session.specs.Rules.{choke, chokeOne, markSisters, lowerOf, lookAt, lowest, countOf, surplusOf, notePolyphony, polyphony, startMarks, enter, withoutVoice, withoutSlots, sharing, yielding, goingFirst, yieldUp, endOldest, markEnded};
+ghost use Rattle.session.specs.Rules.{choke, chokeOne, markSisters, lowerOf, lookAt, lowest, countOf, surplusOf, notePolyphony, polyphony, startMarks, isLimit, isLimited, enter, startOne, withoutVoice, withoutSlots, sharing, yielding, goingFirst, yieldUp, endOldest, markEnded};
 ghost use Rattle.session.specs.Offs.{offOf, addOff, offsOf, collectedOffs, tookFirst, firstAt};
 ghost use Rattle.session.specs.Removal.{stays};
 ghost use Rattle.session.specs.Tests.{isLive, overLive, twiceLive, strayRecord, overRecords, overVoice, overHeld, regionOutside, slotsInOrder, attackPlaying};
@@ -539,6 +539,57 @@ pub fn enter_record(s: Session, st: Start, slot: u32) -> Session
     }
     t.players[n] = r;
     t.count = n + 1;
+    t
+}
+
+// Whether there is a limit.
+fn is_limit(l: Limit) -> bool
+    ensures { λ b. ⌜ b ≡ isLimit l ⌝ }
+{
+    match l {
+        Limit::Unlimited => false,
+        Limit::Most(_) => true,
+    }
+}
+
+// Whether the start has a limit: without one neither rule of polyphony marks anything.
+fn is_limited(st: Start) -> bool
+    ensures { λ b. ⌜ b ≡ isLimited st ⌝ }
+{
+    let a = st.note_polyphony;
+    let b = st.polyphony;
+    if is_limit(a) {
+        return true;
+    }
+    is_limit(b)
+}
+
+// A start as a whole: its marks, then, where its voice has room, its record. One function, on its own copy of the session: a call that
+// takes a session copies it, and a start without limits, the usual one, makes no such call.
+pub fn start_one(s: Session, st: Start, room: bool, slot: u32) -> Session
+    ensures { λ r. ⌜ r ≡ relist (startOne st room slot (view s)) s ⌝ }
+{
+    let n = used(s.count);
+    let mut t = s;
+    t.count = n;
+    let mut i: usize = 0;
+    while i < n {
+        let r = t.players[i];
+        if choked_by(r, st) {
+            t.players[i] = mark(r, st.at);
+        }
+        i += 1;
+    }
+    if is_limited(st) {
+        let b = limit_note(t, st);
+        t = limit_region(b, st);
+    }
+    if room {
+        if n < 512 {
+            t.players[n] = entry(st, slot);
+            t.count = n + 1;
+        }
+    }
     t
 }
 
