@@ -4,4 +4,5 @@ pub mod Lasting
 pub mod Scenes
 pub mod Framing
 pub mod Wholes
+pub mod Calming
 pub mod Quiet

@@ -1,5 +1,6 @@
 // A block of a voice: the Rust's `process`, once the tests of the call have passed. Off times are collected, pitch is set, then events by
 // frame with the frames between them, and the amp input last.
+pub mod calm;
 pub mod frames;
 pub mod inputs;
 pub mod render;

@@ -13,7 +13,7 @@ use session::Slots;
 use session::mark_ended;
 
 // The records in these slots carry the mark of ended data.
-fn end_records(s: Session, voice: u64, ended: Slots) -> Session
+pub fn end_records(s: Session, voice: u64, ended: Slots) -> Session
     ensures { λ r. ⌜ r ≡ withEnded voice ended s ⌝ }
 {
     if ended.count == 0 {

@@ -68,6 +68,9 @@ off-ok : (p : Player) → PlayerOk p → PlayerOk (turnedOff p)
 unfolding turnedOff
 off-ok p h = record { cold = h .cold; stages = h .stages; position = h .position }
 
+pub retuned-ok : (note bend : Float) (p : Player) → PlayerOk p → PlayerOk (retuned note bend p)
+retuned-ok note bend p h = record { cold = pitched-ok (p .cold) note bend (h .cold); stages = h .stages; position = h .position }
+
 once-ok : (p : Player) → PlayerOk p → PlayerOk (offOnce p)
 once-ok p h = go (p .hot .offed)
   where
@@ -137,8 +140,7 @@ module _ (ps : Players) (ok : PlayersOk ps) where
 
   pub retuned-all-ok : (note bend : Float) → PlayersOk (retunedAll note bend ps)
   unfolding retunedAll
-  retuned-all-ok note bend =
-      map-ok (retuned note bend) (λ p h. record { cold = pitched-ok (p .cold) note bend (h .cold); stages = h .stages; position = h .position })
+  retuned-all-ok note bend = map-ok (retuned note bend) (retuned-ok note bend)
 
   pub reaped-ok : PlayersOk (reaped ps .players)
   unfolding reaped

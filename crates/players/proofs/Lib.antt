@@ -3,6 +3,8 @@ pub mod Places
 pub mod Seating
 pub mod Passing
 pub mod Fits
+pub mod Looking
 pub mod Lending
+pub mod Tuning
 pub mod Bands
 pub mod Keeping

@@ -69,7 +69,7 @@ walk-done f ps t i ok so-far p q =
     ∙ ap (λ (k : ℕ). placesAt (map f (sounding ps) ++ drop k (ps .players)) k) (sym m)
 
 -- a step that stays is the pitch that stays
-same-pitch : (p : Player) (note bend : Float) (c : Cold) → c ≡ pitched (p .cold) note bend → ne (c .step) (p .cold .step) ≡ false
+pub same-pitch : (p : Player) (note bend : Float) (c : Cold) → c ≡ pitched (p .cold) note bend → ne (c .step) (p .cold .step) ≡ false
     → retuned note bend p ≡ p
 unfolding pitched
 same-pitch p note bend c e h =
@@ -97,7 +97,7 @@ module _ (note bend : Float) (ps t : Players) (i : ℕ) (d : Player) (so-far : t
 -- ---- whether a player was ended in its delay
 
 module _ {A : Type 0} (q : A → Bool) where
-  any-more : (xs : List A) (y : A) → any q (xs ++ (y ∷ [])) ≡ any q xs || q y
+  pub any-more : (xs : List A) (y : A) → any q (xs ++ (y ∷ [])) ≡ any q xs || q y
   any-more [] y = go (q y)
     where
       go : (t : Bool) → pick t true false ≡ t
@@ -116,7 +116,7 @@ module _ {A : Type 0} (q : A → Bool) where
 abbrev pub ends : Player → Bool
 ends p = hearsGate p && delays p
 
-or-no : (k : Bool) → k || false ≡ k
+pub or-no : (k : Bool) → k || false ≡ k
 or-no true = refl
 or-no false = refl
 

@@ -15,7 +15,8 @@ use Rattle.session.specs.declared.Slots.{Slots}
 use Rattle.players.specs.declared.Players.{Players}
 use Rattle.players.specs.declared.Mixed.{Mixed}
 use Rattle.players.specs.declared.mix.Parts.{Parts}
-use Rattle.players.specs.Seats.{sounding, reseat, slotsFrom}
+use Rattle.players.specs.declared.mix.Tune.{Tune}
+use Rattle.players.specs.Seats.{sounding, reseat, slotsFrom, retuned, retunedAll}
 
 -- what players read: the samples' words, all frames, and the sinc table's 8,194 entries
 pub record Sounds : Type 0 where
@@ -83,3 +84,10 @@ mixture ps b = record { mixed = record { players = reseat (b .players) ps; ended
 
 unfoldable pub playedAll : Sounds → Players → List Float → List Float → Mixture
 playedAll x ps l r = mixture ps (playedBand x (sounding ps) l r)
+
+-- a player, and all of them, tuned as a block has it
+unfoldable pub tunedOne : Tune → Player → Player
+tunedOne x p = pick (x .on) (retuned (x .«note_f») (x .bend) p) p
+
+unfoldable pub tunedAll : Tune → Players → Players
+tunedAll x ps = pick (x .on) (retunedAll (x .«note_f») (x .bend) ps) ps

@@ -1,8 +1,10 @@
 // What 01's test 8 refuses in a player, each cause by itself.
 ghost use mathlib.Core.Path.{_≡_};
+ghost use mathlib.Core.Bool.{true, _&&_};
 ghost use Prim.Native.Nat.{_≤_};
 ghost use Rattle.filter.specs.Filter.{stageCount};
 ghost use Rattle.session.specs.Lists.{usedOf};
+ghost use Rattle.players.specs.Seats.{sounding, slotsFrom, slotNumbers};
 ghost use Rattle.players.specs.Sound.{regionOut, sampleOut, spanOver, filtersOver, slotFits, stagesOver, isDouble, loopWrong, positionOut, stepOut, frameCount, loopPast, lastPast, playerFits, sampleFits, playersFit, samplesFit};
 use super::Players;
 use filter::FilterShape;
@@ -11,6 +13,13 @@ use player::MaybeLoop;
 use player::Player;
 use program::bind::BoundProgram;
 use program::sample::sample_at;
+use session::Slots;
+
+// What a look at all players tells: whether each passes, and, where they do, their slots in order.
+pub struct Looked {
+    pub fits: bool,
+    pub slots: Slots,
+}
 
 fn region_out(p: Player, b: BoundProgram) -> bool
     ensures { λ r. ⌜ r ≡ regionOut b p ⌝ }
@@ -228,4 +237,29 @@ pub fn samples_fit(ps: Players, samples: &[u32]) -> bool
         k += 1;
     }
     true
+}
+
+// All that a call asks of the players in one walk: `players_fit`, `samples_fit` and their slots. Each walk of its own would pass them by
+// value again.
+pub fn players_look(ps: Players, b: BoundProgram, samples: &[u32]) -> Looked
+    ensures { λ r. ⌜ (r .fits ≡ (playersFit b ps && samplesFit (now (samples .entry)) ps)) × (r .fits ≡ true → r .slots ≡ slotsFrom (slotNumbers (sounding ps))) ⌝ }
+{
+    let n = in_use(ps.count);
+    let mut slots = [0u32; 32];
+    let mut k: usize = 0;
+    while k < n {
+        let p = ps.players[k];
+        if !player_fits(p, b) {
+            let slots = Slots { slots, count: k };
+            return Looked { fits: false, slots };
+        }
+        if !sample_fits(p, samples) {
+            let slots = Slots { slots, count: k };
+            return Looked { fits: false, slots };
+        }
+        slots[k] = p.slot;
+        k += 1;
+    }
+    let slots = Slots { slots, count: n };
+    Looked { fits: true, slots }
 }

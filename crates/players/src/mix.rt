@@ -4,11 +4,15 @@ ghost use Prim.Native.Nat.{_<_, min};
 ghost use lib.ListN.{length};
 ghost use Rattle.player.specs.Bounds.{PlayerOk};
 ghost use Rattle.player.specs.Segment.{playedBy};
-ghost use Rattle.players.specs.Mix.{partsOf, lentTo, noted, playedAll};
-ghost use Rattle.players.specs.Seats.{PlayersOk};
+ghost use Rattle.session.specs.Lists.{any};
+ghost use Rattle.players.specs.Mix.{partsOf, lentTo, noted, tunedOne, tunedAll, playedAll};
+ghost use Rattle.players.specs.Seats.{sounding, isOver, PlayersOk};
 use super::Mixed;
 use super::Players;
+use super::is_over;
+use super::with_cold;
 use player::Player;
+use player::pitch::set_pitch;
 use player::segment::Played;
 use player::segment::play;
 use program::sample::Sample;
@@ -20,6 +24,20 @@ pub struct Parts {
     pub first: usize,
     pub second: usize,
     pub end: usize,
+}
+
+// How a block tunes the players: to a note and a bend, or not at all.
+pub struct Tune {
+    pub on: bool,
+    pub note_f: f32,
+    pub bend: f32,
+}
+
+// After a segment: the slots of the players whose data ended in it, and whether some player's envelope is done.
+pub struct Sounded {
+    pub players: Players,
+    pub ended: Slots,
+    pub over: bool,
 }
 
 // A place among the frames that are there.
@@ -89,7 +107,78 @@ fn note_end(e: Slots, slot: u32, yes: bool) -> Slots
     e
 }
 
-// A segment of every player, one after the other, added to both outputs' parts.
+// One whose step stays is not made anew.
+fn tuned(p: Player, x: Tune) -> Player
+    requires { ⌜ PlayerOk p ⌝ }
+    ensures { λ r. ⌜ (r ≡ tunedOne x p) × PlayerOk r ⌝ }
+{
+    if x.on {
+        let cold = set_pitch(p.cold, x.note_f, x.bend);
+        if cold.step != p.cold.step {
+            return with_cold(p, cold);
+        }
+    }
+    p
+}
+
+// A player is tuned, and plays its segment.
+fn sound_one(
+    p: Player,
+    x: Tune,
+    samples: &[u32],
+    frames: &[f32],
+    table: &[f32],
+    left: &mut [f32],
+    right: &mut [f32],
+) -> Played
+    requires { ⌜ PlayerOk p × (length (now table) ≡ 8194) × (length (now right) ≡ length (now left)) ⌝ }
+    ensures { λ r. ⌜ ((record { played = r; left = now (left .exit); right = now (right .exit) }) ≡ playedBy (lentTo (record { samples = now (samples .entry); frames = now (frames .entry); table = now (table .entry) }) (tunedOne x p)) (tunedOne x p) (now (left .entry)) (now (right .entry))) × PlayerOk (r .player) ⌝ }
+{
+    let q = tuned(p, x);
+    play_one(q, samples, frames, table, left, right)
+}
+
+// Every player is tuned and plays its segment, one after the other, added to both outputs' parts. One walk does both, and notes what the
+// session has to hear: a walk of its own would pass all players by value again.
+pub fn sound_all(
+    ps: Players,
+    x: Tune,
+    samples: &[u32],
+    frames: &[f32],
+    table: &[f32],
+    left: &mut [f32],
+    right: &mut [f32],
+) -> Sounded
+    requires { ⌜ PlayersOk ps × (length (now table) ≡ 8194) × (length (now right) ≡ length (now left)) ⌝ }
+    ensures { λ r. ⌜ ((record { mixed = record { players = r .players; ended = r .ended }; left = now (left .exit); right = now (right .exit) }) ≡ playedAll (record { samples = now (samples .entry); frames = now (frames .entry); table = now (table .entry) }) (tunedAll x ps) (now (left .entry)) (now (right .entry))) × (r .over ≡ any isOver (sounding (r .players))) × PlayersOk (r .players) ⌝ }
+{
+    let n = ps.count;
+    let mut t = ps;
+    let mut ended = Slots {
+        slots: [0; 32],
+        count: 0,
+    };
+    let mut over = false;
+    let mut k: usize = 0;
+    while k < n {
+        let p = t.players[k];
+        let y = sound_one(p, x, samples, frames, table, left, right);
+        let q = y.player;
+        t.players[k] = q;
+        if is_over(q) {
+            over = true;
+        }
+        ended = note_end(ended, p.slot, y.ended);
+        k += 1;
+    }
+    Sounded {
+        players: t,
+        ended,
+        over,
+    }
+}
+
+// A segment of every player as it is tuned. It goes through `sound_all`, so that `play` has one caller and is inlined there.
 pub fn play_all(
     ps: Players,
     samples: &[u32],
@@ -101,20 +190,13 @@ pub fn play_all(
     requires { ⌜ PlayersOk ps × (length (now table) ≡ 8194) × (length (now right) ≡ length (now left)) ⌝ }
     ensures { λ r. ⌜ ((record { mixed = r; left = now (left .exit); right = now (right .exit) }) ≡ playedAll (record { samples = now (samples .entry); frames = now (frames .entry); table = now (table .entry) }) ps (now (left .entry)) (now (right .entry))) × PlayersOk (r .players) ⌝ }
 {
-    let n = ps.count;
-    let mut t = ps;
-    let mut ended = Slots {
-        slots: [0; 32],
-        count: 0,
+    let x = Tune {
+        on: false,
+        note_f: 0.0,
+        bend: 0.0,
     };
-    let mut k: usize = 0;
-    while k < n {
-        let p = t.players[k];
-        let y = play_one(p, samples, frames, table, left, right);
-        let q = y.player;
-        t.players[k] = q;
-        ended = note_end(ended, p.slot, y.ended);
-        k += 1;
-    }
-    Mixed { players: t, ended }
+    let m = sound_all(ps, x, samples, frames, table, left, right);
+    let players = m.players;
+    let ended = m.ended;
+    Mixed { players, ended }
 }

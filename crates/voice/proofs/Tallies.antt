@@ -52,10 +52,10 @@ module _ {A : Type 0} (p : A → Bool) where
     by-case true h = refl
     by-case false h = h
 
-  any-step : (xs : List A) (i : ℕ) (d : A) → i < length xs → any p (take (i + 1) xs) ≡ any p (take i xs) || p (getD xs i d)
+  pub any-step : (xs : List A) (i : ℕ) (d : A) → i < length xs → any p (take (i + 1) xs) ≡ any p (take i xs) || p (getD xs i d)
   any-step xs i d h = rw (add-one, take-suc xs i d h) (any-one-more (take i xs) (getD xs i d))
 
-  any-within : (xs : List A) (n i : ℕ) (d : A) → n ≤ length xs → i < n → p (getD xs i d) ≡ true → any p (take n xs) ≡ true
+  pub any-within : (xs : List A) (n i : ℕ) (d : A) → n ≤ length xs → i < n → p (getD xs i d) ≡ true → any p (take n xs) ≡ true
   any-within xs n i d h k e =
       let l : length (take n xs) ≡ n = length-take-le n xs h in
       any-at (take n xs) i d (omega arith) (ap p (getD-take n xs i d k) ∙ e)
@@ -281,7 +281,7 @@ module _ (nr id : ℕ) (s : Session) where
 
 -- ---- what a walk that finds nothing tells
 
-and-both : (a b : Bool) → (a && b) ≡ true → (a ≡ true) × (b ≡ true)
+pub and-both : (a b : Bool) → (a && b) ≡ true → (a ≡ true) × (b ≡ true)
 and-both true b e = (refl, e)
 and-both false b e = absurd (true≢false (sym e))
 

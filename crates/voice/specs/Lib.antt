@@ -1,5 +1,6 @@
 pub mod Tests
 pub mod Others
 pub mod Quiet
+pub mod Calm
 pub mod Calls
 pub mod Numbers

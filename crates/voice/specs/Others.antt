@@ -5,9 +5,9 @@ use mathlib.Core.List.{List}
 use lib.Dec.{leb, eqb}
 use Rattle.session.specs.Lists.{any}
 use Rattle.session.specs.Offs.{firstAt}
-use Rattle.session.specs.Records.{ofVoice}
+use Rattle.session.specs.Records.{ofVoice, waits}
 use Rattle.session.specs.State.{view}
-use Rattle.session.specs.Tests.{strayRecord, overVoice, regionOutside}
+use Rattle.session.specs.Tests.{strayRecord, overVoice, regionOutside, slotsInOrder}
 use Rattle.session.specs.declared.PlayerRecord.{PlayerRecord}
 use Rattle.session.specs.declared.Session.{Session}
 
@@ -22,3 +22,7 @@ amiss n id r = leb n (r .region) || eqb (r .voice) id
 -- no record of a voice not live, none more than 32 of one voice, none of a region outside n, and none of the voice itself
 unfoldable pub othersFit : ℕ → ℕ → Session → Bool
 othersFit n id s = not (strayRecord s) && (not (overVoice s) && (not (regionOutside n s) && not (any (ofVoice id) (view s))))
+
+-- the same with records of the voice, ids counted from 1: they have the slots ks in order, and no off time waits on them
+unfoldable pub listCalm : ℕ → ℕ → List ℕ → Session → Bool
+listCalm n id ks s = othersFit n 0 s && (slotsInOrder id ks s && not (any (waits id) (view s)))

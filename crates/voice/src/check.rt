@@ -77,7 +77,7 @@ pub fn parts_fit(frames: usize, c: Connected, x: Lengths) -> bool
 }
 
 // 8: more than 32 players.
-fn over_players(ps: Players) -> bool
+pub fn over_players(ps: Players) -> bool
     ensures { λ b. ⌜ b ≡ overPlayers ps ⌝ }
 {
     32 < ps.count

@@ -1,6 +1,7 @@
 // The public calls of a voice: making, a block, asking whether it is finished, reset and close. None has a precondition: each gives its
 // result or the refusal that its inputs call for, and a refused call changes nothing. A contract is one equation for all that the call
 // leaves, and beside it the number of its answer: 01's first cause that holds, 0 where none does.
+pub mod calm;
 pub mod check;
 pub mod quiet;
 pub mod tally;
@@ -13,6 +14,8 @@ ghost use Rattle.voice.specs.Numbers.{makeNumber, blockNumber, askNumber
 use block::BlockTime;
 use block::Connected;
 use block::play_block;
+use calm::calm_block;
+use calm::is_calm;
 use check::in_time;
 use check::parts_fit;
 use check::rate_fits;
@@ -226,6 +229,21 @@ pub fn block(
     if is_quiet(s, v, t, c, gate, words, samples, pcm.len(), table.len()) {
         quiet_outputs(c.amp, amp, &mut left[0..n], &mut right[0..n]);
         return refused(Answer::Done, s, v);
+    }
+    if is_calm(s, v, t, c, gate, words, samples, pcm.len(), table.len()) {
+        return calm_block(
+            s,
+            v,
+            c,
+            samples,
+            pcm,
+            table,
+            freq,
+            amp,
+            bend,
+            &mut left[0..n],
+            &mut right[0..n],
+        );
     }
     if !state_fits(s, v, words, samples, pcm.len(), table.len()) {
         return refused(Answer::BadState, s, v);

@@ -25,7 +25,7 @@ use session::over_records;
 use session::twice_live;
 
 // 8, what neither the list nor a player shows.
-fn rest_fits(s: Session, v: SampleVoice) -> bool
+pub fn rest_fits(s: Session, v: SampleVoice) -> bool
     ensures { λ b. ⌜ b ≡ every (restTests s v) ⌝ }
 {
     if !is_live(s, v.voice) {

@@ -4,9 +4,13 @@ ghost use mathlib.Core.Path.{_≡_};
 ghost use Prim.Native.Nat.{_≤_};
 ghost use lib.ListN.{length, take};
 ghost use Rattle.session.specs.Lists.{usedOf};
-ghost use Rattle.voice.specs.Others.{placeIn, amiss, othersFit};
+ghost use Rattle.session.specs.Records.{waits};
+ghost use Rattle.session.specs.State.{slotList};
+ghost use Rattle.voice.specs.Others.{placeIn, amiss, othersFit, listCalm};
+use session::OffAt;
 use session::PlayerRecord;
 use session::Session;
+use session::Slots;
 
 // The places of an array in use: never more than it has.
 fn used(count: usize, size: usize) -> usize
@@ -79,4 +83,62 @@ pub fn others_fit(s: Session, regions: u32, voice: u64) -> bool
         return true;
     }
     tally_fits(s, regions, voice)
+}
+
+// Whether the record is the voice's and its off time waits.
+fn is_waiting(r: PlayerRecord, voice: u64) -> bool
+    ensures { λ b. ⌜ b ≡ waits voice r ⌝ }
+{
+    if r.voice != voice {
+        return false;
+    }
+    let at = r.off_at;
+    match at {
+        OffAt::Never => false,
+        OffAt::At(_) => true,
+    }
+}
+
+// The same with records of the voice: they are its players' slots in order, and no off time waits on them. A record of the id 0, which
+// no call makes, is not told apart from a stray one.
+pub fn list_calm(s: Session, regions: u32, voice: u64, own: Slots) -> bool
+    ensures { λ b. ⌜ b ≡ listCalm regions voice (slotList own) s ⌝ }
+{
+    let n = used(s.count, 512);
+    let v = s.voices;
+    let live = used(v.count, 16);
+    let ids = v.ids;
+    let m = used(own.count, 32);
+    let mut counts = [0u32; 16];
+    let mut i: usize = 0;
+    let mut j: usize = 0;
+    while i < n {
+        let r = s.players[i];
+        if is_amiss(r, regions, 0) {
+            return false;
+        }
+        let p = place_of(&ids, live, r.voice);
+        if live <= p {
+            return false;
+        }
+        let k = counts[p];
+        if 32 <= k {
+            return false;
+        }
+        counts[p] = k + 1;
+        if is_waiting(r, voice) {
+            return false;
+        }
+        i += 1;
+        if r.voice == voice {
+            if m <= j {
+                return false;
+            }
+            if own.slots[j] != r.slot {
+                return false;
+            }
+            j += 1;
+        }
+    }
+    j == m
 }

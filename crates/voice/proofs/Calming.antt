@@ -1,0 +1,166 @@
+-- A block without events passes the tests 8 and 9, and leaves what the plain way leaves. Assumes nothing.
+use Prim.Native.Nat.{ℕ, _-_, _≤_}
+use mathlib.Core.Path.{_≡_, refl, sym, ap, subst, _∙_}
+use mathlib.Core.Bool.{Bool, true, false, not, _&&_}
+use mathlib.Core.List.{List, _++_}
+use native.Mathlib.Nat.{lt-of-lt-of-le}
+use lib.ListN.{length, getD, take, drop, length-map}
+use lib.Dec.{eqb}
+use lib.Ieee.{Float}
+use borrow.Author.Tests.{ltb-false, eqb-true, not-true}
+use Rattle.program.specs.Valid.{every}
+use Rattle.program.proofs.Binding.{every-at}
+use Rattle.players.specs.Mix.{Sounds, Mixture}
+use Rattle.players.specs.Seats.{sounding, slotNumbers, slotsFrom, isOver, PlayersOk}
+use Rattle.players.specs.Sound.{playersFit, samplesFit}
+use Rattle.players.specs.declared.Players.{Players}
+use Rattle.players.specs.declared.mix.Tune.{Tune}
+use Rattle.players.proofs.Kept.{sounding-few}
+use Rattle.players.proofs.Seating.{slots-from}
+use Rattle.session.specs.Lists.{any}
+use Rattle.session.specs.Records.{waits}
+use Rattle.session.specs.State.{view, slotList}
+use Rattle.session.specs.Tests.{isLive, overLive, twiceLive, strayRecord, overRecords, overVoice, overHeld, regionOutside, slotsInOrder}
+use Rattle.session.specs.declared.Session.{Session}
+use Rattle.session.specs.declared.Slots.{Slots}
+use Rattle.events.specs.Voice.{withPlayers}
+use Rattle.events.specs.declared.Both.{Both}
+use Rattle.events.specs.declared.SampleVoice.{SampleVoice}
+use Rattle.block.specs.Block.{Played}
+use Rattle.block.specs.Calm.{tuneOf, calmPart, settled}
+use Rattle.block.specs.Inputs.{Lent, Reaches, cuesOf, soundsOf}
+use Rattle.block.specs.Next.{nextGate}
+use Rattle.block.specs.Ready.{Covers, Ready}
+use Rattle.block.proofs.Calming.{calm-is, calm-stays}
+use Rattle.block.proofs.Wholes.{covers-as}
+use Rattle.voice.specs.Calls.{called, blocked}
+use Rattle.voice.specs.Calm.{calmTests, isCalm, calmPlayed}
+use Rattle.voice.specs.Others.{othersFit, listCalm}
+use Rattle.voice.specs.Quiet.{restTests}
+use Rattle.voice.specs.Tests.{rateFits, overPlayers, formTests, wellFormed, programFits, stateFits, partsFit, lengthsOf, inTime}
+use Rattle.voice.specs.declared.Answer.{Answer}
+use Rattle.voice.specs.declared.Answer.the-variants.{Done}
+use Rattle.voice.specs.declared.Called.{Called}
+use Rattle.voice.proofs.Passed.{withOuts, ready, block-out}
+use Rattle.voice.proofs.Tallies.{and-both, fit-tells}
+
+module _ (n id : ℕ) (ks : List ℕ) (s : Session) (calm : listCalm n id ks s ≡ true) where
+  parts : (othersFit n 0 s ≡ true) × (slotsInOrder id ks s ≡ true) × (any (waits id) (view s) ≡ false)
+  unfolding listCalm
+  parts =
+      let a = and-both (othersFit n 0 s) _ calm in
+      let b = and-both (slotsInOrder id ks s) _ (a .1) in
+      (a .0, b .0, not-true _ (b .1))
+
+module _ (l : Lent) (s : Session) (v : SampleVoice)
+    (calm : isCalm (l .time) (l .connected) (l .gate) (l .words) (l .samples) (length (l .pcm)) (length (l .table)) s v ≡ true) where
+  at : (i : ℕ) → getD (calmTests (l .time) (l .connected) (l .gate) (l .words) (l .samples) (length (l .pcm)) (length (l .table)) s v) i true ≡ true
+  unfolding isCalm
+  at i = every-at (calmTests (l .time) (l .connected) (l .gate) (l .words) (l .samples) (length (l .pcm)) (length (l .table)) s v) i calm
+
+  rest : (i : ℕ) → getD (restTests s v) i true ≡ true
+  rest i = every-at (restTests s v) i (at 1)
+
+  listed : (othersFit (v .program .regions) 0 s ≡ true) × (slotsInOrder (v .voice) (slotNumbers (sounding (v .players))) s ≡ true) × (any (waits (v .voice)) (view s) ≡ false)
+  listed = parts (v .program .regions) (v .voice) (slotNumbers (sounding (v .players))) s (at 6)
+
+  fit : (playersFit (v .program) (v .players) ≡ true) × (samplesFit (l .samples) (v .players) ≡ true)
+  fit = and-both (playersFit (v .program) (v .players)) _ (at 5)
+
+  formed : wellFormed s v ≡ true
+  unfolding wellFormed
+  formed =
+      let x = fit-tells (v .program .regions) 0 s (listed .0) in
+      let g = at 2 in
+      let h = rest 0 in
+      let i = rest 1 in
+      let j = rest 2 in
+      let k = rest 3 in
+      let m = rest 4 in
+      let n = rest 5 in
+      let p = listed .1 in
+      let q = fit .0 in
+      simp (g, h, i, j, k, m, n, p, q, x .0, x .1, x .2)
+
+  pub calm-state : stateFits s v (l .words) (l .samples) (length (l .pcm)) (length (l .table)) ≡ true
+  unfolding programFits
+  calm-state = let f = fit .1 in simp (formed, at 3, f)
+
+  pub calm-time : inTime (l .time .offset) (s .«event_serial») ≡ true
+  calm-time = at 4
+
+  pub calm-few : s .count ≤ 512
+  calm-few = ltb-false 512 (s .count) (not-true _ (rest 3))
+
+  pub calm-still : any (waits (v .voice)) (view s) ≡ false
+  calm-still = listed .2
+
+  pub calm-gate : nextGate (v .«gate_prev») (l .connected .gate) (l .gate) 0 (l .time .frames) ≡ l .time .frames
+  calm-gate = eqb-true _ _ (at 0)
+
+-- the slots that the voice tells are its players'
+pub own-calm : (n id : ℕ) (s : Session) (ps : Players) (ks : Slots) (b : Bool) → ks ≡ slotsFrom (slotNumbers (sounding ps))
+    → b ≡ listCalm n id (slotList ks) s → b ≡ listCalm n id (slotNumbers (sounding ps)) s
+own-calm n id s ps ks b e f =
+    let few : length (slotNumbers (sounding ps)) ≤ 32 = rw (length-map (sounding ps) (λ p. p .slot)) (sounding-few ps) in
+    f ∙ ap (λ (k : Slots). listCalm n id (slotList k) s) e ∙ ap (λ (k : List ℕ). listCalm n id k s) (slots-from (slotNumbers (sounding ps)) few)
+
+-- ---- what it leaves
+
+module _ (x : Sounds) (t : Tune) (on : Bool) (amp : List Float) (n : ℕ) (s : Session) (v : SampleVoice) where
+  pub left-by : (u : Tune) → u ≡ t → (m : Mixture) → m ≡ calmPart x u on amp (v .players) n → (w : SampleVoice) → w ≡ withPlayers (m .mixed .players) v
+      → (b : Both) → b ≡ settled (m .mixed .ended) (record { session = s; voice = w })
+      → _≡_ {A = Played} (record { both = b; left = m .left; right = m .right }) (calmPlayed x t on amp n s v)
+  unfolding calmPlayed
+  left-by u eu m em w ew b eb =
+      ap (λ (z : Both). record { both = z; left = m .left; right = m .right }) (eb ∙ ap (λ (z : SampleVoice). settled (m .mixed .ended) (record { session = s; voice = z })) ew)
+      ∙ ap (λ (k : Mixture). record { both = settled (k .mixed .ended) (record { session = s; voice = withPlayers (k .mixed .players) v }); left = k .left; right = k .right })
+      (em ∙ ap (λ (z : Tune). calmPart x z on amp (v .players) n) eu)
+
+-- the players that sounded are those of the voice
+pub placed-ok : (ps : Players) (v w : SampleVoice) → w ≡ withPlayers ps v → PlayersOk ps → PlayersOk (w .players)
+placed-ok ps v w e ok = subst (λ (z : SampleVoice). PlayersOk (z .players)) (sym e) ok
+
+-- nothing ended, and nobody is done
+pub stays-as : (e : Slots) (s : Session) (v w : SampleVoice) (ps : Players) → w ≡ withPlayers ps v → PlayersOk ps → e .count ≡ 0
+    → (over : Bool) → over ≡ any isOver (sounding ps) → not over ≡ true → record { session = s; voice = w } ≡ settled e (record { session = s; voice = w })
+stays-as e s v w ps ew ok none over told not-over =
+    sym (calm-stays e s w (placed-ok ps v w ew ok) none (ap (λ (z : SampleVoice). any isOver (sounding (z .players))) ew ∙ sym told ∙ not-true over not-over))
+
+-- ---- the call
+
+module _ (l : Lent) (s : Session) (v : SampleVoice)
+    (calm : isCalm (l .time) (l .connected) (l .gate) (l .words) (l .samples) (length (l .pcm)) (length (l .table)) s v ≡ true)
+    (size : length (s .players) ≡ 512) (places : length (v .players .players) ≡ 32) (fits : partsFit (l .time .frames) (l .connected) (lengthsOf l) ≡ true) where
+  abbrev n : ℕ
+  n = l .time .frames
+
+  abbrev front : List Float → List Float
+  front xs = take (n - 0) (drop 0 xs)
+
+  able : Ready (withOuts l (front (l .left)) (front (l .right))) v
+  able = ready l s v places fits (calm-state l s v calm) (calm-time l s v calm)
+
+  -- what the block leans on
+  pub calm-asks : PlayersOk (v .players) × (8194 ≤ length (l .table)) × (length (front (l .right)) ≡ length (front (l .left))) × Covers (l .connected .amp) (l .amp) (length (front (l .left)))
+      × Reaches (l .connected .freq) (l .freq) 0 × Reaches (l .connected .bend) (l .bend) 0
+  calm-asks =
+      let r = able in
+      (r .voice .players, r .table, r .right ∙ sym (r .left), covers-as (l .connected .amp) (l .amp) _ n (r .left) (r .amp), λ e. lt-of-lt-of-le (r .some) (r .freq e), λ e. lt-of-lt-of-le (r .some) (r .bend e))
+
+  pub calm-out : (r : Called) → r .answer ≡ Done → (xs ys : List Float)
+      → record { both = record { session = r .session; voice = r .voice }; left = xs; right = ys }
+      ≡ calmPlayed (soundsOf (cuesOf l)) (tuneOf (v .note) (l .connected) (l .freq) (l .bend)) (l .connected .amp) (l .amp) (length (front (l .left))) s v
+      → length (take 0 (l .left) ++ (xs ++ drop (n - 0) (drop 0 (l .left)))) ≡ length (l .left)
+      → length (take 0 (l .right) ++ (ys ++ drop (n - 0) (drop 0 (l .right)))) ≡ length (l .right)
+      → record { called = r; left = take 0 (l .left) ++ (xs ++ drop (n - 0) (drop 0 (l .left))); right = take 0 (l .right) ++ (ys ++ drop (n - 0) (drop 0 (l .right))) } ≡ blocked l s v
+  unfolding calmPlayed
+  calm-out r done xs ys e f g =
+      let same = calm-is l s v size (calm-few l s v calm) (calm-still l s v calm) (able .some) (calm-gate l s v calm) in
+      ap (λ (a : Answer). record {
+        called = called a (r .session) (r .voice);
+        left = take 0 (l .left) ++ (xs ++ drop (n - 0) (drop 0 (l .left)));
+        right = take 0 (l .right) ++ (ys ++ drop (n - 0) (drop 0 (l .right)));
+      }) done
+      ∙ block-out l s v fits (calm-state l s v calm) (calm-time l s v calm) (record { both = record { session = r .session; voice = r .voice }; left = xs; right = ys }) (l .left) (l .right)
+      (e ∙ ap (λ (k : ℕ). calmPlayed (soundsOf (cuesOf l)) (tuneOf (v .note) (l .connected) (l .freq) (l .bend)) (l .connected .amp) (l .amp) k s v) (able .left) ∙ sym same) f g
