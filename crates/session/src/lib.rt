@@ -937,7 +937,7 @@ pub fn fresh_session() -> Session
 // ---- a voice's own off times
 
 // Whether the record is the voice's and its off time waits.
-fn is_waiting(r: PlayerRecord, voice: u64) -> bool
+pub fn is_waiting(r: PlayerRecord, voice: u64) -> bool
     ensures { λ b. ⌜ b ≡ waits voice r ⌝ }
 {
     if r.voice != voice {

@@ -4,13 +4,12 @@ ghost use mathlib.Core.Path.{_≡_};
 ghost use Prim.Native.Nat.{_≤_};
 ghost use lib.ListN.{length, take};
 ghost use Rattle.session.specs.Lists.{usedOf};
-ghost use Rattle.session.specs.Records.{waits};
 ghost use Rattle.session.specs.State.{slotList};
 ghost use Rattle.voice.specs.Others.{placeIn, amiss, othersFit, listCalm};
-use session::OffAt;
 use session::PlayerRecord;
 use session::Session;
 use session::Slots;
+use session::is_waiting;
 
 // The places of an array in use: never more than it has.
 fn used(count: usize, size: usize) -> usize
@@ -85,20 +84,6 @@ pub fn others_fit(s: Session, regions: u32, voice: u64) -> bool
     tally_fits(s, regions, voice)
 }
 
-// Whether the record is the voice's and its off time waits.
-fn is_waiting(r: PlayerRecord, voice: u64) -> bool
-    ensures { λ b. ⌜ b ≡ waits voice r ⌝ }
-{
-    if r.voice != voice {
-        return false;
-    }
-    let at = r.off_at;
-    match at {
-        OffAt::Never => false,
-        OffAt::At(_) => true,
-    }
-}
-
 // The same with records of the voice: they are its players' slots in order, and no off time waits on them. A record of the id 0, which
 // no call makes, is not told apart from a stray one.
 pub fn list_calm(s: Session, regions: u32, voice: u64, own: Slots) -> bool
@@ -121,11 +106,11 @@ pub fn list_calm(s: Session, regions: u32, voice: u64, own: Slots) -> bool
         if live <= p {
             return false;
         }
-        let k = counts[p];
-        if 32 <= k {
+        let held = counts[p];
+        if 32 <= held {
             return false;
         }
-        counts[p] = k + 1;
+        counts[p] = held + 1;
         if is_waiting(r, voice) {
             return false;
         }

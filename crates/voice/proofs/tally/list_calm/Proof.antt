@@ -78,11 +78,11 @@ returns-2 c =
     by-others (e .args .regions) (e .args .voice) (e .args .t4) (e .args .t1)
     (tally-stray (e .args .regions) 0 (e .args .t1) _ _ u q _ refl _ _ (h .tallied) _ (c .before .before .before .before .before .before .loop-test .taken) (sym (c .before .before .before .before .is-amiss .ensures) ∙ c .before .before .before .if1 .left) _ (c .before .place-of .ensures) (omega (arith, take-few (c .before .before .before .before .before .before .before .before .before .before .used2 .result) (e .args .t1 .voices .ids), c .if2 .taken)))
 
-mul-k : tie.Need-mul-k Inv-loop μ-loop
-mul-k c = record { fits = omega (arith, c .before .before .before .before .before .before .before .loop .inv .1, c .if2 .left) }
+mul-held : tie.Need-mul-held Inv-loop μ-loop
+mul-held c = record { fits = omega (arith, c .before .before .before .before .before .before .before .loop .inv .1, c .if2 .left) }
 
-array-read-k : tie.Need-array-read-k Inv-loop μ-loop
-array-read-k c = omega (arith, c .before .before .before .before .before .before .before .loop .inv .1, c .before .before .before .before .before .before .before .loop .inv .3 .tallied .size, c .if2 .left)
+array-read-held : tie.Need-array-read-held Inv-loop μ-loop
+array-read-held c = omega (arith, c .before .before .before .before .before .before .before .loop .inv .1, c .before .before .before .before .before .before .before .loop .inv .3 .tallied .size, c .if2 .left)
 
 returns-3 : tie.Need-returns-3 Inv-loop μ-loop
 returns-3 c =
@@ -217,8 +217,8 @@ list-calm-spec =
     returns
     place-of-requires
     returns-2
-    mul-k
-    array-read-k
+    mul-held
+    array-read-held
     returns-3
     add-counts
     mul-counts
