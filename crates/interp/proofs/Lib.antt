@@ -1,6 +1,7 @@
 pub mod Range
 pub mod Floor
 pub mod Frames
+pub mod Sizes
 pub mod Table
 pub mod Taps
 pub mod Reading

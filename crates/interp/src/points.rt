@@ -1,5 +1,8 @@
 // The kernels of two and of four points.
 ghost use mathlib.Core.Path.{_≡_};
+ghost use mathlib.Core.Bool.{not, _&&_};
+ghost use lib.Ieee.{lt};
+ghost use Rattle.exact.specs.Single.{f0, f1, f2};
 ghost use Prim.Native.Nat.{_≤_};
 ghost use Rattle.interp.specs.Points.{nearWeight, farWeight, weight3, frameAt, linearAt, weightsAt, hermiteAt};
 use exact::order::abs_f32;
@@ -81,28 +84,41 @@ fn each_weight(f: f32) -> Weights
     }
 }
 
+// Whether v lies between 0 and 1.
+fn in_first(v: f32) -> bool
+    ensures { λ b. ⌜ b ≡ (lt f0 v && lt v f1) ⌝ }
+{
+    if 0.0 < v {
+        return v < 1.0;
+    }
+    false
+}
+
+// Whether v lies from 1 to 2.
+fn in_second(v: f32) -> bool
+    ensures { λ b. ⌜ b ≡ (not (lt v f1) && lt v f2) ⌝ }
+{
+    if v < 1.0 {
+        return false;
+    }
+    v < 2.0
+}
+
 // The weights around a position that lies f behind the second frame. Where f is a part of 1 it is known which side of 1 each
-// distance lies on: the machine then works the four out side by side.
+// distance lies on, and its sign: the machine then works the four out side by side.
 fn weigh(f: f32) -> Weights
     ensures { λ r. ⌜ r ≡ weightsAt f ⌝ }
 {
-    let x = abs_f32(-1.0 - f);
-    let y = abs_f32(-f);
-    let z = abs_f32(1.0 - f);
-    let w = abs_f32(2.0 - f);
-    if x < 1.0 {
-        return each_weight(f);
-    }
-    if w < 1.0 {
-        return each_weight(f);
-    }
-    if x < 2.0 {
-        if w < 2.0 {
-            if y < 1.0 {
-                if z < 1.0 {
+    let x = -(-1.0 - f);
+    let z = 1.0 - f;
+    let w = 2.0 - f;
+    if in_first(f) {
+        if in_first(z) {
+            if in_second(x) {
+                if in_second(w) {
                     return Weights {
                         a: far_weight(x),
-                        b: near_weight(y),
+                        b: near_weight(f),
                         c: near_weight(z),
                         d: far_weight(w),
                     };
