@@ -73,11 +73,11 @@ loop-again c =
       l .loop .inv .2,
       fold-step _ _ (a .t4 .regions) (l .loop .i) (carried (l .loop .ps) (l .loop .next) (l .loop .dropped) (a .v)) (l .loop .inv .3) 0 _ (omega (arith, l .loop .inv .2))
           (⊎-elim
-          (λ w. voice-joins k (a .ns) (a .c) (a .v) (l .loop .ps) (l .loop .next) (l .loop .dropped) _ _ _ _ (w .0 .taken) _ (w .1 .ensures) _ (w .2 .ensures .0) (w .4) (w .5 ∙ w .3 .ensures) (w .6))
-          (λ w. voice-drops k (a .ns) (a .c) (a .v) (l .loop .ps) (l .loop .next) (l .loop .dropped) _ _ _ _ (w .0 .left) (w .2) (w .3) (w .4 ∙ w .1 .ensures))
+          (λ w. voice-joins k (a .ns) (a .c) (a .v) (l .loop .ps) (l .loop .next) (l .loop .dropped) _ _ _ _ (omega (arith, w .0 .taken)) _ (w .1 .ensures) _ (w .2 .ensures .0) (w .4) (w .5 ∙ w .3 .ensures) (w .6))
+          (λ w. voice-drops k (a .ns) (a .c) (a .v) (l .loop .ps) (l .loop .next) (l .loop .dropped) _ _ _ _ (omega (arith, w .0 .left)) (w .2) (w .3) (w .4 ∙ w .1 .ensures))
           (c .if1 .came)),
       ⊎-elim
-          (λ w. subst PlayersOk (sym (w .4)) (seated-ok (l .loop .ps) (l .loop .inv .4) _ (w .0 .taken) (w .2 .ensures .1)))
+          (λ w. subst PlayersOk (sym (w .4)) (seated-ok (l .loop .ps) (l .loop .inv .4) _ (omega (arith, w .0 .taken)) (w .2 .ensures .1)))
           (λ w. subst PlayersOk (sym (w .2)) (l .loop .inv .4))
           (c .if1 .came),
     )
