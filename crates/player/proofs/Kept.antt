@@ -75,7 +75,7 @@ module _ (span : SincSpan) (stereo : Bool) (s : Lent) where
   pub same-kept : (qs ls rs qs' ls' rs' : List Float) → qs' ≡ qs → ls' ≡ ls → rs' ≡ rs → Kept span stereo s qs ls rs → Kept span stereo s qs' ls' rs'
   same-kept qs ls rs qs' ls' rs' same-q same-l same-r h = rw (same-q, same-l, same-r) h
 
-  pub keeps : (qs ls rs qs' ls' rs' : List Float) (k : ℕ) (q l r : Float) → k < 16 → Read q l r → qs' ≡ set qs k q → ls' ≡ set ls k l → rs' ≡ set rs k r
+  pub keeps : (qs ls rs qs' ls' rs' : List Float) (k : ℕ) (q l r : Float) → k < 64 → Read q l r → qs' ≡ set qs k q → ls' ≡ set ls k l → rs' ≡ set rs k r
       → Kept span stereo s qs ls rs → Kept span stereo s qs' ls' rs'
   keeps qs ls rs qs' ls' rs' k q l r b v same-q same-l same-r h =
       rw (same-q, same-l, same-r)
@@ -83,10 +83,10 @@ module _ (span : SincSpan) (stereo : Bool) (s : Lent) where
         many-q = length-set qs k q ∙ h .many-q;
         many-l = length-set ls k l ∙ h .many-l;
         many-r = length-set rs k r ∙ h .many-r;
-        pairs = λ (i : ℕ) (m : i < 16) (p : Float) (w : Position p) (f : T (fits binary64 p)) t. at-place i p m w f (eqb i k) (eqb→eq i k) (T-not (eqb i k)) t;
+        pairs = λ (i : ℕ) (m : i < 64) (p : Float) (w : Position p) (f : T (fits binary64 p)) t. at-place i p m w f (eqb i k) (eqb→eq i k) (T-not (eqb i k)) t;
       }
     where
-      at-place : (i : ℕ) (p : Float) → i < 16 → Position p → T (fits binary64 p) → (b : Bool) → (T b → i ≡ k) → (T (not b) → T (eqb i k) → ⊥) → T (eq (getD (set qs k q) i nan) p)
+      at-place : (i : ℕ) (p : Float) → i < 64 → Position p → T (fits binary64 p) → (b : Bool) → (T b → i ≡ k) → (T (not b) → T (eqb i k) → ⊥) → T (eq (getD (set qs k q) i nan) p)
           → _≡_ {A = Pair} (record { l = getD (set ls k l) i nan; r = getD (set rs k r) i nan }) (pairAt Sinc (s .a) (s .b) stereo p (s .table) span)
       at-place i p m w f true y n t =
           let e : i ≡ k = y tt in
@@ -117,10 +117,10 @@ no-position (fin false n d) k t =
     let h : 0 < down d = down-pos d in
     omega arith
 
-pub nothing-kept : (span : SincSpan) (stereo : Bool) (s : Lent) → Kept span stereo s (replicate 16 none) (replicate 16 f0) (replicate 16 f0)
+pub nothing-kept : (span : SincSpan) (stereo : Bool) (s : Lent) → Kept span stereo s (replicate 64 none) (replicate 64 f0) (replicate 64 f0)
 nothing-kept span stereo s = record {
-  many-q = length-replicate 16 none;
-  many-l = length-replicate 16 f0;
-  many-r = length-replicate 16 f0;
-  pairs = λ (i : ℕ) (m : i < 16) (p : Float) (w : Position p) (f : T (fits binary64 p)) t. absurd (no-position p w (subst (λ (x : Float). T (eq x p)) (getD-replicate 16 i none nan m) t));
+  many-q = length-replicate 64 none;
+  many-l = length-replicate 64 f0;
+  many-r = length-replicate 64 f0;
+  pairs = λ (i : ℕ) (m : i < 64) (p : Float) (w : Position p) (f : T (fits binary64 p)) t. absurd (no-position p w (subst (λ (x : Float). T (eq x p)) (getD-replicate 64 i none nan m) t));
 }

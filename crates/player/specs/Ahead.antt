@@ -40,8 +40,8 @@ pub record AllInner (x : Next) (half len : ℕ) : Type 0 where
 
 -- In place i the pair is what the sinc reads at every position, as a double holds it, that tests as the one in place i.
 pub record Kept (span : SincSpan) (stereo : Bool) (s : Lent) (qs ls rs : List Float) : Type 0 where
-  pub many-q : length qs ≡ 16
-  pub many-l : length ls ≡ 16
-  pub many-r : length rs ≡ 16
-  pub pairs : (i : ℕ) → i < 16 → (p : Float) → Position p → T (fits binary64 p) → T (eq (getD qs i nan) p)
+  pub many-q : length qs ≡ 64
+  pub many-l : length ls ≡ 64
+  pub many-r : length rs ≡ 64
+  pub pairs : (i : ℕ) → i < 64 → (p : Float) → Position p → T (fits binary64 p) → T (eq (getD qs i nan) p)
       → _≡_ {A = Pair} (record { l = getD ls i nan; r = getD rs i nan }) (pairAt Sinc (s .a) (s .b) stereo p (s .table) span)

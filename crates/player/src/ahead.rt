@@ -131,15 +131,15 @@ fn inside(x: Next, half: usize, len: usize) -> bool
 
 // The frame (l, r) of the position p is kept in place k.
 fn keep(
-    qs: &mut [f64; 16],
-    ls: &mut [f32; 16],
-    rs: &mut [f32; 16],
+    qs: &mut [f64; 64],
+    ls: &mut [f32; 64],
+    rs: &mut [f32; 64],
     k: usize,
     p: f64,
     l: f32,
     r: f32,
 )
-    requires { ⌜ k < 16 ⌝ }
+    requires { ⌜ k < 64 ⌝ }
     ensures { λ _. ⌜ (now (qs .exit) ≡ set (now (qs .entry)) k p) × (now (ls .exit) ≡ set (now (ls .entry)) k l) × (now (rs .exit) ≡ set (now (rs .entry)) k r) ⌝ }
 {
     qs[k] = p;
@@ -156,12 +156,12 @@ fn four(
     table: &[f32],
     entries: &mut [u32; 320],
     parts: &mut [f32; 320],
-    qs: &mut [f64; 16],
-    ls: &mut [f32; 16],
-    rs: &mut [f32; 16],
+    qs: &mut [f64; 64],
+    ls: &mut [f32; 64],
+    rs: &mut [f32; 64],
     at: usize,
 )
-    requires { ⌜ Positions x × AllInner x (cold .span .half) (length (now a)) × Suited cold (now a) (now b) × (at + 4 ≤ 16) × (length (now table) ≡ 8194) × (length (now entries) ≡ 320) × (length (now parts) ≡ 320) × Kept (cold .span) (cold .stereo) (record { a = now a; b = now b; table = now table }) (now qs) (now ls) (now rs) ⌝ }
+    requires { ⌜ Positions x × AllInner x (cold .span .half) (length (now a)) × Suited cold (now a) (now b) × (at + 4 ≤ 64) × (length (now table) ≡ 8194) × (length (now entries) ≡ 320) × (length (now parts) ≡ 320) × Kept (cold .span) (cold .stereo) (record { a = now a; b = now b; table = now table }) (now qs) (now ls) (now rs) ⌝ }
     ensures { λ _. ⌜ (length (now (entries .exit)) ≡ 320) × (length (now (parts .exit)) ≡ 320) × Kept (cold .span) (cold .stereo) (record { a = now (a .entry); b = now (b .entry); table = now (table .entry) }) (now (qs .exit)) (now (ls .exit)) (now (rs .exit)) ⌝ }
 {
     let span = cold.span;
@@ -195,7 +195,7 @@ fn four(
     }
 }
 
-// The next frames of a player are kept: 16, or as many fours as m frames have, as far as they are inner ones. A release on the
+// The next frames of a player are kept: 64, or as many fours as m frames have, as far as they are inner ones. A release on the
 // way, which can end the loop, leaves the rest unread.
 pub fn ahead(
     hot: Hot,
@@ -204,9 +204,9 @@ pub fn ahead(
     b: &[f32],
     table: &[f32],
     m: usize,
-    qs: &mut [f64; 16],
-    ls: &mut [f32; 16],
-    rs: &mut [f32; 16],
+    qs: &mut [f64; 64],
+    ls: &mut [f32; 64],
+    rs: &mut [f32; 64],
 )
     requires { ⌜ ColdOk cold × Position (hot .pos) × (length (now table) ≡ 8194) × Suited cold (now a) (now b) × Kept (cold .span) (cold .stereo) (record { a = now a; b = now b; table = now table }) (now qs) (now ls) (now rs) ⌝ }
     ensures { λ _. ⌜ Kept (cold .span) (cold .stereo) (record { a = now (a .entry); b = now (b .entry); table = now (table .entry) }) (now (qs .exit)) (now (ls .exit)) (now (rs .exit)) ⌝ }
@@ -226,7 +226,7 @@ pub fn ahead(
     let mut p = place(lp, hot.pos);
     let h = cold.span.half as usize;
     let mut at = 0usize;
-    while at < 16 {
+    while at < 64 {
         if m < at + 4 {
             return;
         }
@@ -254,8 +254,8 @@ pub fn ahead(
 }
 
 // Whether place i keeps the kernel's frame at p.
-pub fn known(kind: Interp, qs: &[f64; 16], i: usize, p: f64) -> bool
-    requires { ⌜ i < 16 ⌝ }
+pub fn known(kind: Interp, qs: &[f64; 64], i: usize, p: f64) -> bool
+    requires { ⌜ i < 64 ⌝ }
     ensures { λ r. ⌜ ((r ≡ true) → (kind ≡ Sinc) × T (eq (getD (now (qs .entry)) i nan) p)) ⌝ }
 {
     match kind {

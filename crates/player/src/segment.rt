@@ -1,7 +1,7 @@
 // A player's frames between two events, added to a part of each output.
 ghost use mathlib.Core.Path.{_≡_};
 ghost use mathlib.Core.Bool.{true, false};
-ghost use Prim.Native.Nat.{_<_};
+ghost use Prim.Native.Nat.{_<_, _≤_, _+_};
 ghost use lib.ListN.{length};
 ghost use Rattle.filter.specs.Filter.{AllStages};
 ghost use Rattle.interp.specs.Position.{Position};
@@ -91,12 +91,12 @@ fn next_frame(
     a: &[f32],
     b: &[f32],
     table: &[f32],
-    qs: &[f64; 16],
-    ls: &[f32; 16],
-    rs: &[f32; 16],
+    qs: &[f64; 64],
+    ls: &[f32; 64],
+    rs: &[f32; 64],
     i: usize,
 ) -> Frame
-    requires { ⌜ ColdOk cold × Position (hot .pos) × (length (now table) ≡ 8194) × (i < 16) × Kept (cold .span) (cold .stereo) (record { a = now a; b = now b; table = now table }) (now qs) (now ls) (now rs) ⌝ }
+    requires { ⌜ ColdOk cold × Position (hot .pos) × (length (now table) ≡ 8194) × (i < 64) × Kept (cold .span) (cold .stereo) (record { a = now a; b = now b; table = now table }) (now qs) (now ls) (now rs) ⌝ }
     ensures { λ r. ⌜ (r ≡ frameNext cold (record { a = now (a .entry); b = now (b .entry); table = now (table .entry) }) hot) × Position (r .hot .pos) ⌝ }
 {
     let env = hot.env;
@@ -142,21 +142,17 @@ fn add_at(out: &mut [f32], j: usize, x: f32)
     out[j] = out[j] + x;
 }
 
-// Whether the frames that were read ahead are used up before frame j: every 16 frames, the first ones being read before the loop.
-fn due(suited: bool, j: usize) -> bool
-    ensures { λ r. ⌜ ((r ≡ true) → (suited ≡ true)) ⌝ }
+// Where the frames end that are read ahead before frame j of n.
+fn chunk_end(j: usize, n: usize) -> usize
+    requires { ⌜ j ≤ n ⌝ }
+    ensures { λ r. ⌜ (r ≤ n) × (r ≤ j + 64) × (j < n → j < r) ⌝ }
 {
-    if suited {
-        if j % 16 == 0 {
-            return 0 < j;
-        }
-    }
-    false
+    if n - j < 64 { n } else { j + 64 }
 }
 
-// As many frames as both outputs have, added to them; they end early where the envelope is done. Every 16th reads ahead where
-// that can be; no position is -1.0, so at first nothing is kept. Reading ahead is called in two places and handed copies, so that the
-// compiler leaves it out of the loop and `h` and `cold` in registers.
+// As many frames as both outputs have, added to them; they end early where the envelope is done. Up to 64 at a time are read ahead where
+// that can be; no position is -1.0, so at first nothing is kept. Reading ahead stands outside the loop over frames and is handed copies, so
+// that the compiler leaves `h` and `cold` in registers there.
 fn frames(
     hot: Hot,
     cold: Cold,
@@ -172,41 +168,40 @@ fn frames(
     ensures { λ h. ⌜ ((record { hot = h; states = now (states .exit); left = now («out_l» .exit); right = now («out_r» .exit) }) ≡ afterRun (runFor cold slots (record { a = now (a .entry); b = now (b .entry); table = now (table .entry) }) (length (now («out_l» .entry))) (record { hot = hot; states = now (states .entry); left = now («out_l» .entry); right = now («out_r» .entry); done = false }))) × Position (h .pos) ⌝ }
 {
     let n = out_l.len();
-    let mut qs = [-1.0f64; 16];
-    let mut ls = [0.0f32; 16];
-    let mut rs = [0.0f32; 16];
+    let mut qs = [-1.0f64; 64];
+    let mut ls = [0.0f32; 64];
+    let mut rs = [0.0f32; 64];
     let suited = suits(cold, a, b);
-    if suited {
-        let g = hot;
-        let c = cold;
-        ahead(g, c, a, b, table, n, &mut qs, &mut ls, &mut rs);
-    }
     let mut h = hot;
     let mut j = 0usize;
     while j < n {
-        let at = j % 16;
-        if due(suited, j) {
+        if suited {
             let g = h;
             let c = cold;
             ahead(g, c, a, b, table, n - j, &mut qs, &mut ls, &mut rs);
         }
-        let f = next_frame(h, cold, a, b, table, &qs, &ls, &rs, at);
-        let g = f.hot;
-        h = g;
-        if f.done {
-            return h;
+        let stop = chunk_end(j, n);
+        let mut at = 0usize;
+        while j < stop {
+            let f = next_frame(h, cold, a, b, table, &qs, &ls, &rs, at);
+            let g = f.hot;
+            h = g;
+            if f.done {
+                return h;
+            }
+            let mut v = Pair { l: f.l, r: f.r };
+            let count = cold.n_filters as usize;
+            for k in 0..count {
+                let slot = slots[k];
+                let shape = slot.shape;
+                v = tick_pair(states, shape, k, cold.stereo, v);
+            }
+            let gain = cold.gain * f.value;
+            add_at(out_l, j, share_of(gain, cold.ll, cold.rl, v));
+            add_at(out_r, j, share_of(gain, cold.lr, cold.rr, v));
+            j += 1;
+            at += 1;
         }
-        let mut v = Pair { l: f.l, r: f.r };
-        let count = cold.n_filters as usize;
-        for k in 0..count {
-            let slot = slots[k];
-            let shape = slot.shape;
-            v = tick_pair(states, shape, k, cold.stereo, v);
-        }
-        let gain = cold.gain * f.value;
-        add_at(out_l, j, share_of(gain, cold.ll, cold.rl, v));
-        add_at(out_r, j, share_of(gain, cold.lr, cold.rr, v));
-        j += 1;
     }
     h
 }

@@ -109,12 +109,12 @@ fn frame(
     table: &[f32],
     stored: bool,
     p: f64,
-    qs: &[f64; 16],
-    ls: &[f32; 16],
-    rs: &[f32; 16],
+    qs: &[f64; 64],
+    ls: &[f32; 64],
+    rs: &[f32; 64],
     i: usize,
 ) -> Pair
-    requires { ⌜ Position p × (length (now table) ≡ 8194) × (span .half ≤ 40) × (i < 16) × Kept span stereo (record { a = now a; b = now b; table = now table }) (now qs) (now ls) (now rs) ⌝ }
+    requires { ⌜ Position p × (length (now table) ≡ 8194) × (span .half ≤ 40) × (i < 64) × Kept span stereo (record { a = now a; b = now b; table = now table }) (now qs) (now ls) (now rs) ⌝ }
     ensures { λ r. ⌜ r ≡ frameOf kind span stereo (record { a = now (a .entry); b = now (b .entry); table = now (table .entry) }) stored p ⌝ }
 {
     if stored {
@@ -245,12 +245,12 @@ pub fn read(
     a: &[f32],
     b: &[f32],
     table: &[f32],
-    qs: &[f64; 16],
-    ls: &[f32; 16],
-    rs: &[f32; 16],
+    qs: &[f64; 64],
+    ls: &[f32; 64],
+    rs: &[f32; 64],
     i: usize,
 ) -> Source
-    requires { ⌜ ColdOk cold × Position (hot .pos) × (length (now table) ≡ 8194) × (i < 16) × Kept (cold .span) (cold .stereo) (record { a = now a; b = now b; table = now table }) (now qs) (now ls) (now rs) ⌝ }
+    requires { ⌜ ColdOk cold × Position (hot .pos) × (length (now table) ≡ 8194) × (i < 64) × Kept (cold .span) (cold .stereo) (record { a = now a; b = now b; table = now table }) (now qs) (now ls) (now rs) ⌝ }
     ensures { λ r. ⌜ (r ≡ readFrame cold (record { a = now (a .entry); b = now (b .entry); table = now (table .entry) }) hot) × Position (r .hot .pos) ⌝ }
 {
     if cold.silent {

@@ -10,10 +10,10 @@ use Rattle.player.proofs.ahead.ahead.Statement.{statement}
 use Rattle.player.proofs.ahead.ahead.Tie as tie
 
 abbrev Inv-loop : tie.InvT-loop
-Inv-loop cold a b table m qs₀ ls₀ rs₀ entries₀ parts₀ lp p₀ h at₀ qs ls rs entries parts p at = (at ≤ 16) × (at % 4 ≡ 0) × Position p × (length entries ≡ 320) × (length parts ≡ 320) × Kept (cold .span) (cold .stereo) (record { a = a; b = b; table = table }) qs ls rs
+Inv-loop cold a b table m qs₀ ls₀ rs₀ entries₀ parts₀ lp p₀ h at₀ qs ls rs entries parts p at = (at ≤ 64) × (at % 4 ≡ 0) × Position p × (length entries ≡ 320) × (length parts ≡ 320) × Kept (cold .span) (cold .stereo) (record { a = a; b = b; table = table }) qs ls rs
 
 abbrev μ-loop : tie.MeasureT-loop
-μ-loop cold a b table m qs₀ ls₀ rs₀ entries₀ parts₀ lp p₀ h at₀ qs ls rs entries parts p at = 16 - at
+μ-loop cold a b table m qs₀ ls₀ rs₀ entries₀ parts₀ lp p₀ h at₀ qs ls rs entries parts p at = 64 - at
 
 returns : tie.Need-returns Inv-loop μ-loop
 returns c = c .before .before .before .before .pre .4
