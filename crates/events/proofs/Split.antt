@@ -20,7 +20,7 @@ use Rattle.session.specs.State.{view, relist}
 use Rattle.session.specs.declared.Session.{Session}
 use Rattle.session.specs.declared.Start.{Start}
 use Rattle.session.proofs.Relist.{view-few}
-use Rattle.session.proofs.Starts.{enter-after}
+use Rattle.session.proofs.Started.{enter-after}
 use Rattle.session.proofs.Yield.{length-marks}
 use Rattle.note.specs.declared.NoteState.{NoteState}
 use Rattle.events.specs.declared.SampleVoice.{SampleVoice}
