@@ -14,7 +14,7 @@ use Rattle.players.specs.declared.Offed.{Offed}
 use Rattle.session.proofs.Laws.{along-length, first-along, marks-along, slots-marks}
 use Rattle.session.proofs.Relist.{view-few}
 use Rattle.session.proofs.Voices.{keep-fewer}
-use Rattle.session.proofs.Starts.{view-put}
+use Rattle.session.proofs.Started.{view-put}
 use Rattle.session.proofs.Walks.{keep-append}
 use Rattle.session.specs.Changes.{Along, end, one, Marked, unchanged, newly}
 use Rattle.session.specs.Lists.{pick, keep, any, changeFirst}

@@ -3,9 +3,12 @@
 use Prim.Native.Nat.{ℕ, _+_, _%_, _^_, _<_, _≤_}
 use mathlib.Core.Path.{_≡_, refl, sym, ap, _∙_}
 use mathlib.Core.Bool.{Bool, true, false}
-use mathlib.Core.List.{List, [], _∷_, foldl}
+use mathlib.Core.List.{List, [], _∷_, _++_, map, map-append, foldl}
 use native.Mathlib.Omega.{arith}
-use lib.ListN.{length}
+use native.Mathlib.Numerals.{add-one}
+use native.Mathlib.Nat.{le-antisymm}
+use lib.ListN.{length, take, getD, set}
+use lib.Seq.{take-suc, take-suc-set}
 use lib.Dec.{ltb, leb}
 use borrow.Author.Tests.{ltb-true, ltb-false, lt-leb, le-leb}
 use Rattle.player.specs.declared.Player.{Player}
@@ -13,88 +16,78 @@ use Rattle.players.specs.declared.Players.{Players}
 use Rattle.players.specs.Seats.{seated}
 use Rattle.program.specs.Region.{regionAt}
 use Rattle.program.specs.declared.region.Region.{Region}
-use Rattle.session.specs.Lists.{pick}
+use Rattle.session.specs.Lists.{pick, usedOf}
 use Rattle.session.specs.Records.{entered}
 use Rattle.session.specs.Rules.{startMarks, startOne}
-use Rattle.session.specs.State.{view, relist}
+use Rattle.session.specs.State.{view, relist, Starting, startWith, startNext, startedMany}
 use Rattle.session.specs.declared.Session.{Session}
 use Rattle.session.specs.declared.Start.{Start}
 use Rattle.session.proofs.Relist.{view-few}
-use Rattle.session.proofs.Starts.{enter-after}
+use Rattle.session.proofs.Started.{enter-after}
+use Rattle.session.proofs.Walks.{used-small}
 use Rattle.session.proofs.Yield.{length-marks}
 use Rattle.note.specs.declared.NoteState.{NoteState}
 use Rattle.events.specs.declared.SampleVoice.{SampleVoice}
 use Rattle.events.specs.declared.Both.{Both}
 use Rattle.events.specs.declared.Cause.{Cause}
 use Rattle.events.specs.Voice.{Kit, withStarted, withDropped}
-use Rattle.events.specs.Start.{startOf, playerFrom, playerOf, oneMoreDropped, droppedOne, startIn, markedBy, enteredBy, joinedBy, startedRegion, startedAll}
+use Rattle.events.specs.Start.{startsOf, playerFrom, playerOf, oneMoreDropped, droppedOne, startIn, markedBy, enteredBy, joinedBy, startedRegion, startedAll}
 use Rattle.events.proofs.Kept.{is-dropped, is-joined, region-voice}
 
 -- ---- the session's part
 
--- what a start of the session sees and leaves
-pub record Seen : Type 0 where
-  pub session : Session
-  pub count : ℕ
-  pub slot : ℕ
+-- a loop that stores at each place what f gives there: one place more, and the end
+module _ {A B : Type 0} (f : A → B) (xs : List A) (ys : List B) (i : ℕ) (so-far : take i ys ≡ map f (take i xs)) where
+  pub fill-step : (d : A) (y : B) → i < length xs → i < length ys → y ≡ f (getD xs i d) → take (i + 1) (set ys i y) ≡ map f (take (i + 1) xs)
+  fill-step d y h k e =
+      ap (λ (n : ℕ). take n (set ys i y)) (add-one i) ∙ take-suc-set ys i y k ∙ ap (λ (l : List B). l ++ (y ∷ [])) so-far
+      ∙ ap (λ (z : B). map f (take i xs) ++ (z ∷ [])) e ∙ sym (map-append f (take i xs) (getD xs i d ∷ []))
+      ∙ ap (map f) (sym (ap (λ (n : ℕ). take n xs) (add-one i) ∙ take-suc xs i d h))
 
-abbrev pub seen : Both → Seen
-seen b = record { session = b .session; count = b .voice .players .count; slot = b .voice .«next_slot» }
+  pub fill-done : (n k : ℕ) → i ≤ n → n ≤ i → n ≤ 256 → n ≡ k → take (usedOf 256 n) ys ≡ map f (take k xs)
+  fill-done n k p q few e =
+      ap (λ (m : ℕ). take m ys) (used-small 256 n few ∙ le-antisymm q p) ∙ so-far ∙ ap (λ (m : ℕ). map f (take m xs)) (le-antisymm p q ∙ e)
 
-abbrev pub seenWith : Bool → Start → Seen → Seen
-seenWith room st x = record {
-  session = relist (startOne st room (x .slot) (view (x .session))) (x .session);
-  count = pick room (x .count + 1) (x .count);
-  slot = pick room ((x .slot + 1) % 2 ^ 32) (x .slot);
-}
-
--- region i of the voice `id` starts
-abbrev pub seenAfter : List ℕ → NoteState → Cause → ℕ → Seen → ℕ → Seen
-seenAfter ws n c id x i = seenWith (ltb (x .count) 32) (startOf (regionAt ws i) i id n c) x
+-- what the session's starts find
+abbrev seen : Both → Starting
+seen b = record { session = b .session; held = b .voice .players .count; slot = b .voice .«next_slot» }
 
 module _ (k : Kit) (n : NoteState) (c : Cause) where
   seen-dropped : (b : Both) (i : ℕ) → 32 ≤ b .voice .players .count
-      → seen (startedRegion k n c b i) ≡ seenWith false (startIn k n c (b .voice) i) (seen b)
+      → seen (startedRegion k n c b i) ≡ startWith false (startIn k n c (b .voice) i) (seen b)
   unfolding markedBy startOne
   seen-dropped b i h = ap seen (is-dropped k n c b i h)
 
   seen-joined : (b : Both) (i : ℕ) → b .voice .players .count < 32
-      → seen (startedRegion k n c b i) ≡ seenWith true (startIn k n c (b .voice) i) (seen b)
+      → seen (startedRegion k n c b i) ≡ startWith true (startIn k n c (b .voice) i) (seen b)
   unfolding markedBy enteredBy joinedBy startOne
   seen-joined b i h =
       let st = startIn k n c (b .voice) i in
       let s = b .session in
       let few : length (startMarks st (view s)) ≤ 512 = omega (arith, length-marks st (view s), view-few s) in
-      let with : Session → Seen = λ t. record { session = t; count = b .voice .players .count + 1; slot = (b .voice .«next_slot» + 1) % 2 ^ 32 } in
+      let with : Session → Starting = λ t. record { session = t; held = b .voice .players .count + 1; slot = (b .voice .«next_slot» + 1) % 2 ^ 32 } in
       ap seen (is-joined k n c b i h)
       ∙ ap with (enter-after s (relist (startMarks st (view s)) s) (startMarks st (view s)) (entered st (b .voice .«next_slot»)) few refl)
 
-  seen-one : (b : Both) (i : ℕ) → seen (startedRegion k n c b i) ≡ seenAfter (k .words) n c (b .voice .voice) (seen b) i
+  seen-one : (b : Both) (i : ℕ) → seen (startedRegion k n c b i) ≡ startNext (seen b) (startIn k n c (b .voice) i)
+  unfolding startNext
   seen-one b i = by-case (ltb (b .voice .players .count) 32) refl where
-    by-case : (t : Bool) → ltb (b .voice .players .count) 32 ≡ t → seen (startedRegion k n c b i) ≡ seenWith t (startIn k n c (b .voice) i) (seen b)
+    by-case : (t : Bool) → ltb (b .voice .players .count) 32 ≡ t → seen (startedRegion k n c b i) ≡ startWith t (startIn k n c (b .voice) i) (seen b)
     by-case true e = seen-joined b i (ltb-true (b .voice .players .count) 32 e)
     by-case false e = seen-dropped b i (ltb-false (b .voice .players .count) 32 e)
 
-  pub seen-all : (is : List ℕ) (b : Both) → seen (foldl (startedRegion k n c) b is) ≡ foldl (seenAfter (k .words) n c (b .voice .voice)) (seen b) is
+  seen-all : (is : List ℕ) (b : Both) → seen (foldl (startedRegion k n c) b is) ≡ foldl startNext (seen b) (startsOf (k .words) (b .voice .voice) n c is)
   seen-all [] b = refl
   seen-all (i ∷ is) b =
       seen-all is (startedRegion k n c b i)
-      ∙ ap (λ (id : ℕ). foldl (seenAfter (k .words) n c id) (seen (startedRegion k n c b i)) is) (region-voice k n c b i .voice)
-      ∙ ap (λ (x : Seen). foldl (seenAfter (k .words) n c (b .voice .voice)) x is) (seen-one b i)
+      ∙ ap (λ (id : ℕ). foldl startNext (seen (startedRegion k n c b i)) (startsOf (k .words) id n c is)) (region-voice k n c b i .voice)
+      ∙ ap (λ (x : Starting). foldl startNext x (startsOf (k .words) (b .voice .voice) n c is)) (seen-one b i)
 
-  pub session-all : (is : List ℕ) (b : Both) (x : Seen) → x ≡ foldl (seenAfter (k .words) n c (b .voice .voice)) (seen b) is
-      → x .session ≡ startedAll k n c is b .session
-  unfolding startedAll
-  session-all is b x e = ap (λ (y : Seen). y .session) (e ∙ sym (seen-all is b))
-
--- a turn of the session's loop: the region x, its start st, whether the voice has room, and what the turn leaves
-pub seen-turn : (ws : List ℕ) (n : NoteState) (c : Cause) (id i : ℕ) (o : Seen)
-    (x : Region) → x ≡ regionAt ws i → (st : Start) → st ≡ startOf x i id n c → (room : Bool) → ltb (o .count) 32 ≡ room
-    → (a : Seen) → a .session ≡ relist (startOne st (ltb (o .count) 32) (o .slot) (view (o .session))) (o .session)
-    → a .count ≡ pick room (o .count + 1) (o .count) → a .slot ≡ pick room ((o .slot + 1) % 2 ^ 32) (o .slot)
-    → a ≡ seenAfter ws n c id o i
-seen-turn ws n c id i o x x-is st st-is room told a f g h =
-    rw (f, g ∙ ap (λ (t : Bool). pick t (o .count + 1) (o .count)) (sym told), h ∙ ap (λ (t : Bool). pick t ((o .slot + 1) % 2 ^ 32) (o .slot)) (sym told), st-is, x-is)
+  pub session-all : (is : List ℕ) (b : Both) (sts : List Start) → sts ≡ startsOf (k .words) (b .voice .voice) n c is
+      → (s : Session) → s ≡ startedMany sts (b .voice .players .count) (b .voice .«next_slot») (b .session) → s ≡ startedAll k n c is b .session
+  unfolding startedAll startedMany
+  session-all is b sts e s s-is =
+      s-is ∙ ap (λ (l : List Start). foldl startNext (seen b) l .session) e ∙ ap (λ (x : Starting). x .session) (sym (seen-all is b))
 
 -- ---- the voice's part
 

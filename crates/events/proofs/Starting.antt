@@ -5,12 +5,13 @@ use mathlib.Core.Bool.{Bool, false}
 use mathlib.Core.List.{List}
 use mathlib.Core.Logic.{_≢_}
 use lib.Ieee.{Float}
+use lib.ListN.{take}
 use native.Mathlib.Nat.{le-trans}
 use borrow.Author.Tests.{eq-eqb, ne-eqb}
 use Rattle.gain.specs.declared.Curve.the-variants.{NoCurve, At}
 use Rattle.program.specs.Curve.{velcurveAt}
 use Rattle.program.specs.declared.region.Region.{Region}
-use Rattle.session.specs.Lists.{pick}
+use Rattle.session.specs.Lists.{pick, usedOf}
 use Rattle.session.specs.State.{serialUp}
 use Rattle.session.specs.declared.Session.{Session}
 use Rattle.exact.specs.Random.{drawn}
@@ -22,6 +23,7 @@ use Rattle.note.specs.declared.NoteState.{NoteState}
 use Rattle.note.proofs.Laws.{chosen-list, off-few}
 use Rattle.events.specs.declared.SampleVoice.{SampleVoice}
 use Rattle.events.specs.declared.Both.{Both}
+use Rattle.events.specs.declared.Cause.{Cause}
 use Rattle.events.specs.Voice.{Kit}
 use Rattle.events.specs.Start.{curveFor, startedAll, heldFor, releaseCause, releasesFired, firedFor, dispatchedRelease}
 
@@ -35,6 +37,11 @@ module _ (ws : List ℕ) (x : Region) (i vel : ℕ) where
   unfolding curveFor
   curve-some g h e =
       ap At e ∙ sym (ap (λ (t : Bool). pick t NoCurve (At (velcurveAt ws i vel))) (ne-eqb (x .level .«velcurve_count») 0 h))
+
+-- where no region is chosen nothing is started
+pub none-started : (k : Kit) (n : NoteState) (c : Cause) (ch : Chosen) (b : Both) → ch .count ≡ 0 → b ≡ startedAll k n c (chosenList ch) b
+unfolding startedAll
+none-started k n c ch b e = sym (ap (λ (m : ℕ). startedAll k n c (take (usedOf 256 m) (ch .regions)) b) e)
 
 -- a release fires: t is the session with its new serial, ch what is chosen of m regions
 module _ (k : Kit) (m : ℕ) (n : NoteState) (at : ℕ) (s : Session) (v : SampleVoice) where

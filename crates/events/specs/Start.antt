@@ -1,7 +1,7 @@
 -- A region starts: its marks on the session's list, then, where its voice has room, its record and its player. Definitions only.
 use Prim.Native.Nat.{ℕ, _+_, _-_, _%_, _^_}
 use mathlib.Core.Bool.{false}
-use mathlib.Core.List.{List, foldl}
+use mathlib.Core.List.{List, map, foldl}
 use lib.Dec.{ltb, leb, eqb}
 use lib.IntN.{pos}
 use lib.Ieee.{Float, binary32, ofInt}
@@ -65,6 +65,13 @@ startOf x i voice n c = record {
   polyphony = limitIn (x .choke .polyphony);
 }
 
+-- region i of the voice starts; and all these regions, in turn
+abbrev pub startAt : List ℕ → ℕ → NoteState → Cause → ℕ → Start
+startAt ws voice n c i = startOf (regionAt ws i) i voice n c
+
+abbrev pub startsOf : List ℕ → ℕ → NoteState → Cause → List ℕ → List Start
+startsOf ws voice n c is = map (startAt ws voice n c) is
+
 -- what the player's start reads of the note and of the event
 abbrev pub noteIn : NoteState → Note
 noteIn n = record { note = n .note; vel = n .vel; «note_f» = n .«note_f»; seed = n .seed; interp = n .interp }
@@ -93,7 +100,7 @@ abbrev pub droppedOne : SampleVoice → SampleVoice
 droppedOne v = withDropped (oneMoreDropped (v .dropped)) v
 
 abbrev pub startIn : Kit → NoteState → Cause → SampleVoice → ℕ → Start
-startIn k n c v i = startOf (regionAt (k .words) i) i (v .voice) n c
+startIn k n c v i = startAt (k .words) (v .voice) n c i
 
 -- what the start marks, dropped or not
 unfoldable pub markedBy : Start → Session → Session

@@ -5,12 +5,13 @@ ghost use mathlib.Core.List.{List};
 ghost use lib.Dec.{T};
 ghost use Rattle.program.specs.Valid.{loopInOrder};
 ghost use Rattle.session.specs.Lists.{usedOf};
+ghost use Rattle.session.specs.State.{startList};
 ghost use Rattle.player.specs.Bounds.{PlayerOk};
 ghost use Rattle.players.specs.Seats.{PlayersOk};
 ghost use Rattle.session.specs.declared.Session.{Session};
 ghost use Rattle.note.specs.Choice.{chosenList};
 ghost use Rattle.events.specs.Voice.{Kit, Bindable};
-ghost use Rattle.events.specs.Start.{offByIn, limitIn, startOf, curveFor, playerFrom, oneMoreDropped, startedAll, heldFor, releasesFired, dispatchedRelease};
+ghost use Rattle.events.specs.Start.{offByIn, limitIn, startOf, startsOf, curveFor, playerFrom, oneMoreDropped, startedAll, heldFor, releasesFired, dispatchedRelease};
 use super::Both;
 use super::Cause;
 use super::SampleVoice;
@@ -33,8 +34,10 @@ use program::sample::sample_at;
 use session::Limit;
 use session::Session;
 use session::Start;
+use session::Starts;
 use session::next_serial;
-use session::start_one;
+use session::no_start;
+use session::start_many;
 
 // ---- what a start reads of its region
 
@@ -143,8 +146,25 @@ fn drop_one(n: u32) -> u32
     if n < 0xffff_ffff { n + 1 } else { n }
 }
 
+// The starts of the chosen regions, as the session sees them.
+fn starts_of(words: &[u32], chosen: Chosen, id: u64, ns: NoteState, c: Cause) -> Starts
+    ensures { λ r. ⌜ startList r ≡ startsOf (now (words .entry)) id ns c (chosenList chosen) ⌝ }
+{
+    let n = used(chosen.count);
+    let none = no_start();
+    let mut starts = [none; 256];
+    let mut i: usize = 0;
+    while i < n {
+        let ri = chosen.regions[i];
+        let region = region_at(words, ri);
+        starts[i] = start_of(region, ri, id, ns, c);
+        i += 1;
+    }
+    Starts { starts, count: n }
+}
+
 // The session's part of the starts: chokes and polyphony limits first, then the record, where the voice has room. Of the voice it needs
-// no more than its id, its next slot and how many players it has.
+// no more than its id, its next slot and how many players it has. One call for all starts: each call would copy the session.
 fn start_sessions(
     s: Session,
     v: SampleVoice,
@@ -155,25 +175,8 @@ fn start_sessions(
 ) -> Session
     ensures { λ r. ⌜ ((samples : List ℕ) → r ≡ startedAll (record { words = now (words .entry); samples = samples }) ns c (chosenList chosen) (record { session = s; voice = v }) .session) ⌝ }
 {
-    let n = used(chosen.count);
-    let id = v.voice;
-    let mut count = v.players.count;
-    let mut slot = v.next_slot;
-    let mut t = s;
-    let mut i: usize = 0;
-    while i < n {
-        let ri = chosen.regions[i];
-        let region = region_at(words, ri);
-        let st = start_of(region, ri, id, ns, c);
-        let room = count < 32;
-        t = start_one(t, st, room, slot);
-        if room {
-            count += 1;
-            slot = std::num::wrapping_add_u32(slot, 1);
-        }
-        i += 1;
-    }
-    t
+    let starts = starts_of(words, chosen, v.voice, ns, c);
+    start_many(s, starts, v.players.count, v.next_slot)
 }
 
 // The voice's part: each player takes the next place and the next slot; a voice that holds 32 drops the start. The players are stored
@@ -245,7 +248,8 @@ fn held_for(at: u64, on_time: u64, rate: f32) -> f32
     u64_to_f32(at - on_time) / rate
 }
 
-// Of n regions those that the release of the note `ns` chooses. The event takes a serial, whether a region starts or not.
+// Of n regions those that the release of the note `ns` chooses. The event takes a serial, whether a region starts or not. Where none is
+// chosen the call is left out: it would copy the session and the voice.
 fn fire_releases(
     s: Session,
     v: SampleVoice,
@@ -258,18 +262,27 @@ fn fire_releases(
     requires { ⌜ PlayersOk (v .players) × Bindable (now words) × (n ≤ 256) ⌝ }
     ensures { λ r. ⌜ (r ≡ releasesFired (record { words = now (words .entry); samples = now (samples .entry) }) n ns at (record { session = s; voice = v })) × PlayersOk (r .voice .players) ⌝ }
 {
-    let t = next_serial(s);
+    let mut t = next_serial(s);
+    let mut w = v;
     let serial = t.event_serial;
     let draw = rand01(ns.seed, serial, 0);
     let chosen = choose_off(t, words, n, ns.note, ns.vel, draw);
-    let held_secs = held_for(at, ns.on_time, v.sample_rate);
-    let c = Cause {
-        serial,
-        on_note: false,
-        at,
-        held_secs,
-    };
-    start_all(t, v, words, samples, chosen, ns, c)
+    if chosen.count != 0 {
+        let held_secs = held_for(at, ns.on_time, v.sample_rate);
+        let c = Cause {
+            serial,
+            on_note: false,
+            at,
+            held_secs,
+        };
+        let b = start_all(t, w, words, samples, chosen, ns, c);
+        t = b.session;
+        w = b.voice;
+    }
+    Both {
+        session: t,
+        voice: w,
+    }
 }
 
 // Fires the note's release regions; without a note nothing happens.

@@ -4,7 +4,7 @@ pub mod Search
 pub mod Packing
 pub mod Relist
 pub mod Yield
-pub mod Starts
+pub mod Started
 pub mod Voices
 pub mod OffTimes
 pub mod Matching

@@ -1,10 +1,11 @@
 -- The session as a whole: its list of records in use, and the session with another list.
 use Prim.Native.Nat.{ℕ, _+_, _-_, _%_, _^_}
 use mathlib.Core.Bool.{Bool, false, not, _&&_}
-use mathlib.Core.List.{List, [], _∷_, _++_}
+use mathlib.Core.List.{List, [], _∷_, _++_, foldl}
 use lib.ListN.{length, take, getD, set, replicate}
 use lib.Dec.{ltb, leb, eqb}
 use lib.IntN.{pos}
+use Rattle.session.specs.declared.Limit.the-variants.{Unlimited}
 use Rattle.session.specs.declared.OffBy.the-variants.{Nobody}
 use Rattle.session.specs.declared.OffAt.the-variants.{Never}
 use Rattle.session.specs.declared.PlayerRecord.{PlayerRecord}
@@ -12,9 +13,11 @@ use Rattle.session.specs.declared.Sequences.{Sequences}
 use Rattle.session.specs.declared.LiveVoices.{LiveVoices}
 use Rattle.session.specs.declared.Session.{Session}
 use Rattle.session.specs.declared.Slots.{Slots}
+use Rattle.session.specs.declared.Start.{Start}
+use Rattle.session.specs.declared.Starts.{Starts}
 use Rattle.session.specs.declared.Opened.{Opened}
 use Rattle.session.specs.Lists.{pick, keep, usedOf, packed}
-use Rattle.session.specs.Rules.{withoutVoice}
+use Rattle.session.specs.Rules.{startOne, withoutVoice}
 
 -- the records in use, in order: the session's list
 abbrev pub view : Session → List PlayerRecord
@@ -38,6 +41,50 @@ relist ks s = withPlayers (packed ks (s .players)) (length ks) s
 -- the slots that a voice names
 abbrev pub slotList : Slots → List ℕ
 slotList ks = take (usedOf 32 (ks .count)) (ks .slots)
+
+-- ---- the starts of one event
+
+-- the starts in use, in order
+abbrev pub startList : Starts → List Start
+startList b = take (usedOf 256 (b .count)) (b .starts)
+
+-- what each start finds and leaves: the session, how many players the voice holds, and its next slot
+pub record Starting : Type 0 where
+  pub session : Session
+  pub held : ℕ
+  pub slot : ℕ
+
+-- a start with room takes a place and the next slot, at 32 bits
+abbrev pub startWith : Bool → Start → Starting → Starting
+startWith room st x = record {
+  session = relist (startOne st room (x .slot) (view (x .session))) (x .session);
+  held = pick room (x .held + 1) (x .held);
+  slot = pick room ((x .slot + 1) % 2 ^ 32) (x .slot);
+}
+
+-- a voice that holds 32 has no room
+unfoldable pub startNext : Starting → Start → Starting
+startNext x st = startWith (ltb (x .held) 32) st x
+
+-- all in turn
+unfoldable pub startedMany : List Start → ℕ → ℕ → Session → Session
+startedMany sts held slot s = foldl startNext (record { session = s; held = held; slot = slot }) sts .session
+
+-- an empty place of the starts
+abbrev pub noStart : Start
+noStart = record {
+  voice = 0;
+  region = 0;
+  group = pos 0;
+  «off_by» = Nobody;
+  note = 0;
+  vel = 0;
+  «on_note» = false;
+  serial = 0;
+  at = 0;
+  «note_polyphony» = Unlimited;
+  polyphony = Unlimited;
+}
 
 -- ---- the live voices
 

@@ -7,11 +7,11 @@ ghost use mathlib.Core.List.{[]};
 ghost use lib.ListN.{getD, drop, length};
 ghost use Rattle.session.specs.Lists.{usedOf, keep, elem, twice};
 ghost use Rattle.session.specs.Records.{marked, ended, collected, entered, sameZ, offByIs, sharesBoth, chokedBy, sharesNote, mayYield, ofRegion, isSister, quieter, older, ofVoice, inSlots, waits, inWindow};
-ghost use Rattle.session.specs.Rules.{choke, chokeOne, markSisters, lowerOf, lookAt, lowest, countOf, surplusOf, notePolyphony, polyphony, startMarks, isLimit, isLimited, enter, startOne, withoutVoice, withoutSlots, sharing, yielding, goingFirst, yieldUp, endOldest, markEnded};
+ghost use Rattle.session.specs.Rules.{choke, chokeOne, markSisters, lowerOf, lookAt, lowest, countOf, surplusOf, notePolyphony, polyphony, startMarks, isLimit, isLimited, enter, withoutVoice, withoutSlots, sharing, yielding, goingFirst, yieldUp, endOldest, markEnded};
 ghost use Rattle.session.specs.Offs.{offOf, addOff, offsOf, collectedOffs, tookFirst, firstAt};
 ghost use Rattle.session.specs.Removal.{stays};
 ghost use Rattle.session.specs.Tests.{isLive, overLive, twiceLive, strayRecord, overRecords, overVoice, overHeld, regionOutside, slotsInOrder, attackPlaying};
-ghost use Rattle.session.specs.State.{view, relist, slotList, liveIds, withVoices, opened, freed, withSeq, seqStepped, seqHit, serialUp, heldUp, heldDown, endedVoice, closedVoice, noRecord, freshSession, hasPlace, placed};
+ghost use Rattle.session.specs.State.{view, relist, noStart, startList, startedMany, slotList, liveIds, withVoices, opened, freed, withSeq, seqStepped, seqHit, serialUp, heldUp, heldDown, endedVoice, closedVoice, noRecord, freshSession, hasPlace, placed};
 
 // A group that turns a record off, or none.
 pub enum OffBy {
@@ -81,6 +81,12 @@ pub struct Start {
     pub at: u64,
     pub note_polyphony: Limit,
     pub polyphony: Limit,
+}
+
+// The starts of one event, in turn.
+pub struct Starts {
+    pub starts: [Start; 256],
+    pub count: usize,
 }
 
 // Slots of a voice's players, in order.
@@ -564,31 +570,67 @@ fn is_limited(st: Start) -> bool
     is_limit(b)
 }
 
-// A start as a whole: its marks, then, where its voice has room, its record. One function, on its own copy of the session: a call that
-// takes a session copies it, and a start without limits, the usual one, makes no such call.
-pub fn start_one(s: Session, st: Start, room: bool, slot: u32) -> Session
-    ensures { λ r. ⌜ r ≡ relist (startOne st room slot (view s)) s ⌝ }
+// An empty place of the starts.
+pub fn no_start() -> Start
+    ensures { λ r. ⌜ r ≡ noStart ⌝ }
 {
-    let n = used(s.count);
+    Start {
+        voice: 0,
+        region: 0,
+        group: 0,
+        off_by: OffBy::Nobody,
+        note: 0,
+        vel: 0,
+        on_note: false,
+        serial: 0,
+        at: 0,
+        note_polyphony: Limit::Unlimited,
+        polyphony: Limit::Unlimited,
+    }
+}
+
+fn used_starts(count: usize) -> usize
+    ensures { λ n. ⌜ n ≡ usedOf 256 count ⌝ }
+{
+    if count < 256 { count } else { 256 }
+}
+
+// The starts of one event, in turn. The voice holds `held` players, and `slot` is its next slot: each start marks, and where the voice
+// then holds fewer than 32 its record enters in the next slot. One loop within another, in place: a call that takes a session copies
+// it, and a start without limits, the usual one, makes no such call.
+pub fn start_many(s: Session, b: Starts, held: usize, slot: u32) -> Session
+    ensures { λ r. ⌜ r ≡ startedMany (startList b) held slot s ⌝ }
+{
+    let n = used_starts(b.count);
     let mut t = s;
-    t.count = n;
+    let mut count = held;
+    let mut next = slot;
     let mut i: usize = 0;
     while i < n {
-        let r = t.players[i];
-        if choked_by(r, st) {
-            t.players[i] = mark(r, st.at);
+        let st = b.starts[i];
+        let m = used(t.count);
+        t.count = m;
+        let mut k: usize = 0;
+        while k < m {
+            let r = t.players[k];
+            if choked_by(r, st) {
+                t.players[k] = mark(r, st.at);
+            }
+            k += 1;
+        }
+        if is_limited(st) {
+            let x = limit_note(t, st);
+            t = limit_region(x, st);
+        }
+        if count < 32 {
+            if m < 512 {
+                t.players[m] = entry(st, next);
+                t.count = m + 1;
+            }
+            count += 1;
+            next = std::num::wrapping_add_u32(next, 1);
         }
         i += 1;
-    }
-    if is_limited(st) {
-        let b = limit_note(t, st);
-        t = limit_region(b, st);
-    }
-    if room {
-        if n < 512 {
-            t.players[n] = entry(st, slot);
-            t.count = n + 1;
-        }
     }
     t
 }

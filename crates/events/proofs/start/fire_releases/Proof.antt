@@ -1,4 +1,5 @@
-use Rattle.events.proofs.Starting.{fired}
+use Rattle.events.proofs.Starting.{fired, none-started}
+use mathlib.Core.Path.{refl}
 use borrow.Author.Needs.{needs}
 use Rattle.events.proofs.start.fire_releases.Statement.{statement}
 use Rattle.events.proofs.start.fire_releases.Tie as tie
@@ -19,7 +20,19 @@ start-all-requires : tie.Need-start-all-requires
 start-all-requires c κs = search needs
 
 returns : tie.Need-returns
-returns c = let e = c .before .before .before .before .before .before .before in let a = e .args in (fired _ (a .n) (a .ns) (a .at) (a .s) (a .v) (e .pre .2) _ (c .before .before .before .before .next-serial .ensures) _ (c .before .before .before .rand01 .ensures) _ (c .before .before .choose-off .ensures) _ (c .before .held-for .ensures) _ (c .start-all .ensures .0), c .start-all .ensures .1)
+returns c =
+    let s = c .before .before in
+    let o = s .before .before .before .before in
+    let e = o .before .before .before .before .before in
+    let a = e .args in
+    (fired _ (a .n) (a .ns) (a .at) (a .s) (a .v) (e .pre .2) _ (o .before .before .next-serial .ensures) _ (o .before .rand01 .ensures) _ (o .choose-off .ensures) _ (s .before .held-for .ensures) _ (s .start-all .ensures .0), s .start-all .ensures .1)
+
+returns-2 : tie.Need-returns-2
+returns-2 c =
+    let o = c .before .before in
+    let e = o .before .before .before .before .before in
+    let a = e .args in
+    (fired _ (a .n) (a .ns) (a .at) (a .s) (a .v) (e .pre .2) _ (o .before .before .next-serial .ensures) _ (o .before .rand01 .ensures) _ (o .choose-off .ensures) _ refl _ (none-started _ (a .ns) _ _ _ (c .if1 .left)), e .pre .0)
 
 pub fire-releases-spec : {M : Type 1} → statement M
 fire-releases-spec =
@@ -30,4 +43,5 @@ fire-releases-spec =
     choose-off-requires
     held-for-requires
     start-all-requires
-    returns)
+    returns
+    returns-2)
