@@ -17,10 +17,11 @@ use Rattle.note.specs.declared.Strike.{Strike}
 use Rattle.block.specs.declared.Playing.{Playing}
 use Rattle.block.specs.Inputs.{Cues, Reaches, Struck, kitOf, soundsOf, gateAt, strikeAt}
 use Rattle.block.specs.Render.{Scene, renderedTo}
-use Rattle.block.specs.Block.{eventsAt, turnedScene, eventOn, eventTurn, frameTurn, framesTurned, timesEach}
+use Rattle.block.specs.Block.{eventsAt, turnedScene, eventOn, eventTurn, frameTurn, framesTurned, soundedFrom, timesEach}
 use Rattle.block.specs.Next.{nextEvent}
 use Rattle.block.specs.Ready.{PlayingOk, CuesOk}
 use Rattle.block.proofs.Firsts.{skip-to, first-most, first-true}
+use Rattle.block.proofs.Scenes.{no-frames}
 
 -- ---- one event
 
@@ -52,14 +53,15 @@ upcoming c sc from = nextEvent (c .time) (sc .playing .offs) (sc .playing .voice
 abbrev turnedFrom : Cues → Scene → ℕ → Scene
 turnedFrom c sc i = foldl (frameTurn c) sc (indexes i (c .time .frames - i))
 
--- where the loop stands: the frames before the event at ev have been turned
+-- where the loop stands: the frames before the event at ev have been turned, and not yet sounded behind the last event
 pub record Reached (c : Cues) (first sc : Scene) (ev : ℕ) : Type 0 where
   pub ok : PlayingOk (c .words) (sc .playing)
   pub left : length (sc .left) ≡ c .time .frames
   pub right : length (sc .right) ≡ c .time .frames
+  pub behind : sc .playing .from ≤ ev
   pub within : ev ≤ c .time .frames
   pub there : ev < c .time .frames → eventOn c sc ev ≡ true
-  pub rest : framesTurned c first ≡ turnedFrom c sc ev
+  pub rest : soundedFrom c first ≡ renderedTo (soundsOf c) (c .time .frames) (turnedFrom c sc ev)
 
 module _ (c : Cues) (sc : Scene) (from ev : ℕ) (at : ev ≡ upcoming c sc from) where
   pub beyond : from ≤ ev
@@ -79,43 +81,71 @@ module _ (c : Cues) (sc : Scene) (from ev : ℕ) (at : ev ≡ upcoming c sc from
     unfolding nextEvent
     skipped = skip-to (frameTurn c) (eventOn c) sc (still c sc) from (c .time .frames) ev low at
 
-pub reach-first : (c : Cues) (sc : Scene) (ev : ℕ) → ev ≡ upcoming c sc 0 → PlayingOk (c .words) (sc .playing)
+pub reach-first : (c : Cues) (sc : Scene) (ev : ℕ) → ev ≡ upcoming c sc 0 → PlayingOk (c .words) (sc .playing) → sc .playing .from ≡ 0
     → length (sc .left) ≡ c .time .frames → length (sc .right) ≡ c .time .frames → Reached c sc sc ev
-unfolding framesTurned
-reach-first c sc ev at ok l r =
+unfolding soundedFrom framesTurned
+reach-first c sc ev at ok none l r =
     let z : 0 ≤ c .time .frames = omega arith in
     let n : c .time .frames ≡ c .time .frames - 0 = omega arith in
     record {
       ok = ok;
       left = l;
       right = r;
+      behind = omega arith;
       within = not-past c sc 0 ev at z;
       there = is-event c sc 0 ev at z;
-      rest = ap (λ k. foldl (frameTurn c) sc (indexes 0 k)) n ∙ skipped c sc 0 ev at z;
+      rest = ap (renderedTo (soundsOf c) (c .time .frames)) (ap (λ k. foldl (frameTurn c) sc (indexes 0 k)) n ∙ skipped c sc 0 ev at z);
     }
 
-module _ (c : Cues) (first sc : Scene) (ev : ℕ) (so-far : Reached c first sc ev) where
-  pub reach-end : c .time .frames ≤ ev → sc ≡ framesTurned c first
-  reach-end h =
-      let n : c .time .frames - ev ≡ zero = omega arith in
-      sym (so-far .rest ∙ ap (λ k. foldl (frameTurn c) sc (indexes ev k)) n)
+none-left : (c : Cues) (sc : Scene) (ev : ℕ) → c .time .frames ≤ ev → turnedFrom c sc ev ≡ sc
+none-left c sc ev h = let n : c .time .frames - ev ≡ zero = omega arith in ap (λ k. foldl (frameTurn c) sc (indexes ev k)) n
 
-  pub reach-next : ev < c .time .frames → (y : Scene) → y ≡ eventTurn c ev sc → PlayingOk (c .words) (y .playing)
-      → length (y .left) ≡ c .time .frames → length (y .right) ≡ c .time .frames → (next : ℕ) → next ≡ upcoming c y (ev + 1) → Reached c first y next
-  reach-next h y e ok l r next at =
-      let z : ev + 1 ≤ c .time .frames = omega arith in
-      let n : c .time .frames - ev ≡ suc (c .time .frames - (ev + 1)) = omega arith in
-      record {
-        ok = ok;
-        left = l;
-        right = r;
-        within = not-past c y (ev + 1) next at z;
-        there = is-event c y (ev + 1) next at z;
-        rest =
-            so-far .rest ∙ ap (λ k. foldl (frameTurn c) sc (indexes ev k)) n
-            ∙ ap (λ (s : Scene). foldl (frameTurn c) s (indexes (ev + 1) (c .time .frames - (ev + 1)))) (acts c sc ev (so-far .there h) ∙ sym e)
-            ∙ skipped c y (ev + 1) next at z;
-      }
+module _ (c : Cues) (first sc : Scene) (ev : ℕ) (so-far : Reached c first sc ev) where
+  -- all frames have sounded
+  pub reach-end : c .time .frames ≤ sc .playing .from → sc ≡ soundedFrom c first
+  reach-end h =
+      let n : c .time .frames ≤ ev = omega (arith, so-far .behind) in
+      no-frames (soundsOf c) (c .time .frames) sc h ∙ sym (so-far .rest ∙ ap (renderedTo (soundsOf c) (c .time .frames)) (none-left c sc ev n))
+
+  module _ (y : Scene) (ok : PlayingOk (c .words) (y .playing)) (l : length (y .left) ≡ c .time .frames) (r : length (y .right) ≡ c .time .frames)
+      (sounded : y .playing .from ≡ ev) where
+    -- behind the last event the frames only sound
+    pub reach-last : c .time .frames ≤ ev → y ≡ renderedTo (soundsOf c) ev sc → Reached c first y ev
+    reach-last h e =
+        let n : ev ≡ c .time .frames = omega (arith, so-far .within) in
+        let m : c .time .frames ≤ y .playing .from = omega arith in
+        record {
+          ok = ok;
+          left = l;
+          right = r;
+          behind = omega arith;
+          within = so-far .within;
+          there = λ k. absurd (omega (arith, k, h));
+          rest =
+              so-far .rest ∙ ap (renderedTo (soundsOf c) (c .time .frames)) (none-left c sc ev h)
+              ∙ sym (e ∙ ap (λ k. renderedTo (soundsOf c) k sc) n)
+              ∙ no-frames (soundsOf c) (c .time .frames) y m
+              ∙ ap (renderedTo (soundsOf c) (c .time .frames)) (sym (none-left c y ev h));
+        }
+
+    pub reach-next : ev < c .time .frames → y ≡ eventTurn c ev sc → (next : ℕ) → next ≡ upcoming c y (ev + 1) → Reached c first y next
+    reach-next h e next at =
+        let z : ev + 1 ≤ c .time .frames = omega arith in
+        let n : c .time .frames - ev ≡ suc (c .time .frames - (ev + 1)) = omega arith in
+        record {
+          ok = ok;
+          left = l;
+          right = r;
+          behind = omega (arith, beyond c y (ev + 1) next at);
+          within = not-past c y (ev + 1) next at z;
+          there = is-event c y (ev + 1) next at z;
+          rest =
+              so-far .rest
+              ∙ ap (renderedTo (soundsOf c) (c .time .frames))
+              (ap (λ k. foldl (frameTurn c) sc (indexes ev k)) n
+              ∙ ap (λ (s : Scene). foldl (frameTurn c) s (indexes (ev + 1) (c .time .frames - (ev + 1)))) (acts c sc ev (so-far .there h) ∙ sym e)
+              ∙ skipped c y (ev + 1) next at z);
+        }
 
 -- ---- the outputs
 

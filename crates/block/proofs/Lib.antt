@@ -5,4 +5,5 @@ pub mod Scenes
 pub mod Framing
 pub mod Wholes
 pub mod Calming
+pub mod Parts
 pub mod Quiet

@@ -15,17 +15,15 @@ use Rattle.session.specs.declared.Offs.{Offs}
 use Rattle.session.proofs.Walks.{used-small}
 use Rattle.players.specs.Seats.{PlayersOk}
 use Rattle.note.specs.declared.Strike.{Strike}
-use Rattle.events.specs.Voice.{Kit, withPlayers}
+use Rattle.events.specs.Voice.{Kit}
 use Rattle.events.specs.Gate.{notedOn, notedOff}
-use Rattle.events.specs.Off.{reapedBoth, appliedOff}
+use Rattle.events.specs.Off.{appliedOff}
 use Rattle.events.specs.declared.Both.{Both}
 use Rattle.block.specs.declared.BlockTime.{BlockTime}
 use Rattle.block.specs.declared.Playing.{Playing}
 use Rattle.block.specs.Block.{offList, fallsOn, swapRemoved, offTurn, offTurns, withGate, edgeTurned, gateTurn, turns}
-use Rattle.session.specs.declared.Session.{Session}
 use Rattle.players.specs.Mix.{Sounds, Mixture}
-use Rattle.players.specs.declared.Mixed.{Mixed}
-use Rattle.block.specs.Render.{Scene, bothOf, withBoth, putAt, withEnded, afterPart, sceneAfter, mixtureOf, renderedTo}
+use Rattle.block.specs.Render.{Scene, bothOf, withBoth, putAt, afterPart, sceneAfter, mixtureOf, renderedTo}
 use Rattle.block.specs.Ready.{VoiceOk, OffsOk, PlayingOk}
 use Rattle.block.proofs.Lasting.{off-lasts, rise-lasts, fall-lasts, rendered-lasts}
 
@@ -132,14 +130,6 @@ module _ (k : Kit) (x : Strike) (g : Bool) (p : Playing) (b : Bool) (told : b �
   gate-turned e r d = ap (λ (y : Both). withBoth y p) d ∙ sym (ap (λ t. pick t (withBoth (edgeTurned k x g (bothOf p)) p) p) (sym told ∙ e))
 
 -- ---- frames between two events
-
-pub part-is : (b : ℕ) (p : Playing) (m : Mixed) (t : Session) → t ≡ withEnded (p .voice .voice) (m .ended) (p .session)
-    → (y : Both) → y ≡ reapedBoth (record { session = t; voice = withPlayers (m .players) (p .voice) })
-    → _≡_ {A = Playing} (record { session = y .session; voice = y .voice; offs = p .offs; from = b }) (afterPart b p m)
-unfolding afterPart
-part-is b p m t e y d =
-    ap (λ (z : Both). record { session = z .session; voice = z .voice; offs = p .offs; from = b })
-    (d ∙ ap (λ (s : Session). reapedBoth (record { session = s; voice = withPlayers (m .players) (p .voice) })) e)
 
 module _ (x : Sounds) (b : ℕ) (sc : Scene) where
   pub no-frames : b ≤ sc .playing .from → sc ≡ renderedTo x b sc

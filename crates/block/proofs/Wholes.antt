@@ -24,9 +24,9 @@ use Rattle.events.specs.Voice.{withPlayers}
 use Rattle.events.specs.declared.SampleVoice.{SampleVoice}
 use Rattle.block.specs.declared.Connected.{Connected}
 use Rattle.block.specs.declared.Playing.{Playing}
-use Rattle.block.specs.Inputs.{Lent, Cues, cuesOf, soundsOf, Reaches, inputAt, bendOf}
-use Rattle.block.specs.Render.{Scene, bothOf, renderedTo}
-use Rattle.block.specs.Block.{retunedFor, retunedVoice, startedBlock, blockStart, framesTurned, soundedFrom, amplified, Played, playedOf, playedBlock}
+use Rattle.block.specs.Inputs.{Lent, cuesOf, Reaches, inputAt, bendOf}
+use Rattle.block.specs.Render.{Scene, bothOf}
+use Rattle.block.specs.Block.{retunedFor, retunedVoice, startedBlock, blockStart, soundedFrom, amplified, Played, playedOf, playedBlock}
 use Rattle.block.proofs.Lasting.{start-lasts}
 use Rattle.block.specs.Ready.{VoiceOk, OffsOk, PlayingOk, Covers, CuesOk, Ready}
 
@@ -73,6 +73,10 @@ module _ (c : Connected) (fs bs : List Float) (v : SampleVoice) where
     unfolding startedBlock collectedOffs
     offs-started = offs-ok (offTimes (v .voice) (view s))
 
+    pub started-from : (p : Playing) → p ≡ startedBlock c fs bs s v → p .from ≡ 0
+    unfolding startedBlock
+    started-from p e = ap (λ (x : Playing). x .from) e
+
     pub started-ok : (ws : List ℕ) → VoiceOk ws v → (p : Playing) → p ≡ startedBlock c fs bs s v → PlayersOk (p .voice .players) → PlayingOk ws p
     started-ok ws ok p e h = record {
       voice = record {
@@ -109,10 +113,6 @@ module _ (l : Lent) (v : SampleVoice) (r : Ready l v) where
   bend-there e = lt-of-lt-of-le (r .some) (r .bend e)
 
 -- ---- the whole
-
-pub sound-is : (c : Cues) (sc y : Scene) → y ≡ framesTurned c sc → (z : Scene) → z ≡ renderedTo (soundsOf c) (c .time .frames) y → z ≡ soundedFrom c sc
-unfolding soundedFrom
-sound-is c sc y e z d = d ∙ ap (renderedTo (soundsOf c) (c .time .frames)) e
 
 pub played-is : (l : Lent) (s : Session) (v : SampleVoice) (xs ys : List Float) → xs ≡ replicate (l .time .frames) f0 → ys ≡ replicate (l .time .frames) f0
     → (p : Playing) → p ≡ startedBlock (l .connected) (l .freq) (l .bend) s v

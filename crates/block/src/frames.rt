@@ -1,18 +1,26 @@
 // The events of a block, with the frames between them; and the block's outputs.
 ghost use mathlib.Core.Path.{_≡_};
-ghost use Prim.Native.Nat.{_<_, _≤_};
+ghost use mathlib.Core.Bool.{false, not, _||_};
+ghost use Prim.Native.Nat.{_≤_};
+ghost use lib.Dec.{eqb};
 ghost use lib.ListN.{length, replicate};
 ghost use Rattle.exact.specs.Single.{f0};
-ghost use Rattle.block.specs.Block.{eventTurn, framesTurned, timesEach, amplified};
+ghost use Rattle.players.specs.Seats.{PlayersOk};
+ghost use Rattle.block.specs.Block.{soundedFrom, timesEach, amplified};
 ghost use Rattle.block.specs.Ready.{PlayingOk, CuesOk, Covers};
 use super::BlockTime;
 use super::Connected;
 use super::Playing;
+use super::calm::settle;
+use super::inputs::first_off;
 use super::inputs::gate_at;
+use super::inputs::gate_turns;
 use super::inputs::next_event;
 use super::inputs::strike_at;
-use super::render::render;
-use super::turns::events_at;
+use super::turns::edge;
+use super::turns::off_turns;
+use players::mix::Tune;
+use players::mix::sound_all;
 
 // Every frame 0.
 pub fn clear(xs: &mut [f32])
@@ -48,35 +56,29 @@ pub fn amplify_if(on: bool, xs: &mut [f32], amp: &[f32])
     amplify(xs, amp)
 }
 
-// The frames before frame i sound, and then its events act.
-fn event_turn(
-    p: Playing,
-    t: BlockTime,
-    c: Connected,
-    i: usize,
-    words: &[u32],
-    samples: &[u32],
-    pcm: &[f32],
-    table: &[f32],
-    freq: &[f32],
-    gate: &[f32],
-    vel: &[f32],
-    seed: &[f32],
-    quality: &[f32],
-    left: &mut [f32],
-    right: &mut [f32],
-) -> Playing
-    requires { ⌜ PlayingOk (now words) p × (i < t .frames) × CuesOk (record { time = t; connected = c; words = now words; samples = now samples; pcm = now pcm; table = now table; freq = now freq; gate = now gate; vel = now vel; seed = now seed; quality = now quality }) × (length (now left) ≡ t .frames) × (length (now right) ≡ t .frames) ⌝ }
-    ensures { λ r. ⌜ ((record { playing = r; left = now (left .exit); right = now (right .exit) }) ≡ eventTurn (record { time = t; connected = c; words = now (words .entry); samples = now (samples .entry); pcm = now (pcm .entry); table = now (table .entry); freq = now (freq .entry); gate = now (gate .entry); vel = now (vel .entry); seed = now (seed .entry); quality = now (quality .entry) }) i (record { playing = p; left = now (left .entry); right = now (right .entry) })) × PlayingOk (now (words .entry)) r ⌝ }
+// The players sound as they are tuned.
+fn untuned() -> Tune
+    ensures { λ r. ⌜ r .on ≡ false ⌝ }
 {
-    let at = t.offset + (i as u64);
-    let x = strike_at(c, freq, vel, seed, quality, i, at);
-    let g = gate_at(c.gate, gate, i);
-    let q = render(p, i, samples, pcm, table, left, right);
-    events_at(q, words, samples, t, i, x, g)
+    Tune {
+        on: false,
+        note_f: 0.0,
+        bend: 0.0,
+    }
 }
 
-// From event to event; after the last the frames up to the block's end are still to sound.
+// Whether a part is to be settled: the data of `ended` players ended in it, or some player is over.
+fn unsettled(ended: usize, over: bool) -> bool
+    ensures { λ r. ⌜ r ≡ over || not (eqb ended 0) ⌝ }
+{
+    if over {
+        return true;
+    }
+    ended != 0
+}
+
+// From event to event: the frames before it sound, then its off times act, and then an edge of the gate. The last part ends with the
+// block. Session and voice stay in their places; a call takes them by value only where something happens to them.
 pub fn play_frames(
     p: Playing,
     t: BlockTime,
@@ -93,35 +95,69 @@ pub fn play_frames(
     left: &mut [f32],
     right: &mut [f32],
 ) -> Playing
-    requires { ⌜ PlayingOk (now words) p × CuesOk (record { time = t; connected = c; words = now words; samples = now samples; pcm = now pcm; table = now table; freq = now freq; gate = now gate; vel = now vel; seed = now seed; quality = now quality }) × (length (now left) ≡ t .frames) × (length (now right) ≡ t .frames) ⌝ }
-    ensures { λ r. ⌜ ((record { playing = r; left = now (left .exit); right = now (right .exit) }) ≡ framesTurned (record { time = t; connected = c; words = now (words .entry); samples = now (samples .entry); pcm = now (pcm .entry); table = now (table .entry); freq = now (freq .entry); gate = now (gate .entry); vel = now (vel .entry); seed = now (seed .entry); quality = now (quality .entry) }) (record { playing = p; left = now (left .entry); right = now (right .entry) })) × PlayingOk (now (words .entry)) r ⌝ }
+    requires { ⌜ PlayingOk (now words) p × (p .from ≡ 0) × CuesOk (record { time = t; connected = c; words = now words; samples = now samples; pcm = now pcm; table = now table; freq = now freq; gate = now gate; vel = now vel; seed = now seed; quality = now quality }) × (length (now left) ≡ t .frames) × (length (now right) ≡ t .frames) ⌝ }
+    ensures { λ r. ⌜ ((record { playing = r; left = now (left .exit); right = now (right .exit) }) ≡ soundedFrom (record { time = t; connected = c; words = now (words .entry); samples = now (samples .entry); pcm = now (pcm .entry); table = now (table .entry); freq = now (freq .entry); gate = now (gate .entry); vel = now (vel .entry); seed = now (seed .entry); quality = now (quality .entry) }) (record { playing = p; left = now (left .entry); right = now (right .entry) })) × PlayersOk (r .voice .players) ⌝ }
 {
     let n = t.frames;
     let offs = p.offs;
     let prev = p.voice.gate_prev;
+    let x = untuned();
     let mut ev = next_event(t, offs, prev, c.gate, gate, 0);
-    let mut q = p;
-    while ev < n {
-        q = event_turn(
-            q,
-            t,
-            c,
-            ev,
-            words,
-            samples,
-            pcm,
-            table,
-            freq,
-            gate,
-            vel,
-            seed,
-            quality,
-            left,
-            right,
-        );
-        let rest = q.offs;
-        let turned = q.voice.gate_prev;
-        ev = next_event(t, rest, turned, c.gate, gate, ev + 1);
+    let mut session = p.session;
+    let mut voice = p.voice;
+    let mut waiting = p.offs;
+    let mut from = p.from;
+    while from < n {
+        if from < ev {
+            let ps = voice.players;
+            let m = sound_all(
+                ps,
+                x,
+                samples,
+                pcm,
+                table,
+                &mut left[from..ev],
+                &mut right[from..ev],
+            );
+            let players = m.players;
+            voice.players = players;
+            from = ev;
+            let ended = m.ended;
+            if unsettled(ended.count, m.over) {
+                let b = settle(session, voice, ended);
+                session = b.session;
+                voice = b.voice;
+            }
+        }
+        if ev < n {
+            if first_off(t, waiting, ev) < waiting.count {
+                let q = Playing {
+                    session,
+                    voice,
+                    offs: waiting,
+                    from,
+                };
+                let r = off_turns(q, words, samples, t, ev);
+                session = r.session;
+                voice = r.voice;
+                waiting = r.offs;
+            }
+            let g = gate_at(c.gate, gate, ev);
+            if gate_turns(voice.gate_prev, g) {
+                let at = t.offset + (ev as u64);
+                let k = strike_at(c, freq, vel, seed, quality, ev, at);
+                let b = edge(session, voice, words, samples, k, g);
+                session = b.session;
+                voice = b.voice;
+            }
+            let turned = voice.gate_prev;
+            ev = next_event(t, waiting, turned, c.gate, gate, ev + 1);
+        }
     }
-    q
+    Playing {
+        session,
+        voice,
+        offs: waiting,
+        from,
+    }
 }

@@ -7,11 +7,10 @@ pub mod render;
 pub mod turns;
 
 ghost use mathlib.Core.Path.{_≡_};
-ghost use lib.ListN.{length};
 ghost use Rattle.players.specs.Seats.{PlayersOk};
 ghost use Rattle.block.specs.Inputs.{Reaches};
-ghost use Rattle.block.specs.Block.{retunedVoice, startedBlock, soundedFrom, playedBlock};
-ghost use Rattle.block.specs.Ready.{PlayingOk, CuesOk, Ready};
+ghost use Rattle.block.specs.Block.{retunedVoice, startedBlock, playedBlock};
+ghost use Rattle.block.specs.Ready.{Ready};
 use events::Both;
 use events::SampleVoice;
 use events::off::with_players;
@@ -23,7 +22,6 @@ use inputs::input_at;
 use note::MaybeNote;
 use note::note_of;
 use players::retune;
-use render::render;
 use session::Offs;
 use session::Session;
 use session::collect_offs;
@@ -90,46 +88,6 @@ fn start_block(s: Session, v: SampleVoice, c: Connected, freq: &[f32], bend: &[f
     }
 }
 
-// Events by frame, and all frames.
-fn sound_block(
-    p: Playing,
-    t: BlockTime,
-    c: Connected,
-    words: &[u32],
-    samples: &[u32],
-    pcm: &[f32],
-    table: &[f32],
-    freq: &[f32],
-    gate: &[f32],
-    vel: &[f32],
-    seed: &[f32],
-    quality: &[f32],
-    left: &mut [f32],
-    right: &mut [f32],
-) -> Playing
-    requires { ⌜ PlayingOk (now words) p × CuesOk (record { time = t; connected = c; words = now words; samples = now samples; pcm = now pcm; table = now table; freq = now freq; gate = now gate; vel = now vel; seed = now seed; quality = now quality }) × (length (now left) ≡ t .frames) × (length (now right) ≡ t .frames) ⌝ }
-    ensures { λ r. ⌜ ((record { playing = r; left = now (left .exit); right = now (right .exit) }) ≡ soundedFrom (record { time = t; connected = c; words = now (words .entry); samples = now (samples .entry); pcm = now (pcm .entry); table = now (table .entry); freq = now (freq .entry); gate = now (gate .entry); vel = now (vel .entry); seed = now (seed .entry); quality = now (quality .entry) }) (record { playing = p; left = now (left .entry); right = now (right .entry) })) × PlayersOk (r .voice .players) ⌝ }
-{
-    let q = play_frames(
-        p,
-        t,
-        c,
-        words,
-        samples,
-        pcm,
-        table,
-        freq,
-        gate,
-        vel,
-        seed,
-        quality,
-        left,
-        right,
-    );
-    let n = t.frames;
-    render(q, n, samples, pcm, table, left, right)
-}
-
 // One block into both outputs, each as long as the block.
 pub fn play_block(
     s: Session,
@@ -157,7 +115,7 @@ pub fn play_block(
     clear(right);
     let p = start_block(s, v, c, freq, bend);
     let entries = &table[..8194];
-    let q = sound_block(
+    let q = play_frames(
         p,
         t,
         c,

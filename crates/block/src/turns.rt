@@ -2,12 +2,11 @@
 ghost use mathlib.Core.Path.{_≡_};
 ghost use Prim.Native.Nat.{_+_, _<_, _^_};
 ghost use Rattle.session.specs.Offs.{firstAt};
-ghost use Rattle.block.specs.Block.{offList, fallsOn, offTurn, offTurns, edgeTurned, gateTurn, eventsAt};
+ghost use Rattle.block.specs.Block.{offList, fallsOn, offTurn, offTurns, edgeTurned};
 ghost use Rattle.block.specs.Ready.{VoiceOk, PlayingOk};
 use super::BlockTime;
 use super::Playing;
 use super::inputs::first_off;
-use super::inputs::gate_turns;
 use super::inputs::swap_remove;
 use events::Both;
 use events::SampleVoice;
@@ -43,7 +42,7 @@ fn off_turn(p: Playing, words: &[u32], samples: &[u32], t: BlockTime, i: usize, 
 }
 
 // The off times on frame i act, first by first, until none is left.
-fn off_turns(p: Playing, words: &[u32], samples: &[u32], t: BlockTime, i: usize) -> Playing
+pub fn off_turns(p: Playing, words: &[u32], samples: &[u32], t: BlockTime, i: usize) -> Playing
     requires { ⌜ PlayingOk (now words) p × (t .offset + i < 2 ^ 64) × (0 < t .frames) ⌝ }
     ensures { λ r. ⌜ (r ≡ offTurns (record { words = now (words .entry); samples = now (samples .entry) }) t i (p .offs .count) p) × PlayingOk (now (words .entry)) r ⌝ }
 {
@@ -61,7 +60,7 @@ fn off_turns(p: Playing, words: &[u32], samples: &[u32], t: BlockTime, i: usize)
 }
 
 // The gate goes to g.
-fn edge(s: Session, v: SampleVoice, words: &[u32], samples: &[u32], x: Strike, g: bool) -> Both
+pub fn edge(s: Session, v: SampleVoice, words: &[u32], samples: &[u32], x: Strike, g: bool) -> Both
     requires { ⌜ VoiceOk (now words) v ⌝ }
     ensures { λ r. ⌜ (r ≡ edgeTurned (record { words = now (words .entry); samples = now (samples .entry) }) x g (record { session = s; voice = v })) × VoiceOk (now (words .entry)) (r .voice) ⌝ }
 {
@@ -74,45 +73,4 @@ fn edge(s: Session, v: SampleVoice, words: &[u32], samples: &[u32], x: Strike, g
     } else {
         note_off(s, w, words, samples, n, at)
     }
-}
-
-// An edge, where the gate turns.
-fn gate_turn(p: Playing, words: &[u32], samples: &[u32], x: Strike, g: bool) -> Playing
-    requires { ⌜ PlayingOk (now words) p ⌝ }
-    ensures { λ r. ⌜ (r ≡ gateTurn (record { words = now (words .entry); samples = now (samples .entry) }) x g p) × PlayingOk (now (words .entry)) r ⌝ }
-{
-    let prev = p.voice.gate_prev;
-    if !gate_turns(prev, g) {
-        return p;
-    }
-    let from = p.from;
-    let offs = p.offs;
-    let s = p.session;
-    let v = p.voice;
-    let b = edge(s, v, words, samples, x, g);
-    let session = b.session;
-    let voice = b.voice;
-    Playing {
-        session,
-        voice,
-        offs,
-        from,
-    }
-}
-
-// The events on frame i: off marks before an edge of the gate.
-pub fn events_at(
-    p: Playing,
-    words: &[u32],
-    samples: &[u32],
-    t: BlockTime,
-    i: usize,
-    x: Strike,
-    g: bool,
-) -> Playing
-    requires { ⌜ PlayingOk (now words) p × (t .offset + i < 2 ^ 64) × (0 < t .frames) ⌝ }
-    ensures { λ r. ⌜ (r ≡ eventsAt (record { words = now (words .entry); samples = now (samples .entry) }) t i x g p) × PlayingOk (now (words .entry)) r ⌝ }
-{
-    let q = off_turns(p, words, samples, t, i);
-    gate_turn(q, words, samples, x, g)
 }
