@@ -1,6 +1,6 @@
 -- A block without events passes the tests 8 and 9, and leaves what the plain way leaves. Assumes nothing.
 use Prim.Native.Nat.{ℕ, _-_, _≤_}
-use mathlib.Core.Path.{_≡_, refl, sym, ap, subst, _∙_}
+use mathlib.Core.Path.{_≡_, sym, ap, _∙_}
 use mathlib.Core.Bool.{Bool, true, false, not, _&&_}
 use mathlib.Core.List.{List, _++_}
 use native.Mathlib.Nat.{lt-of-lt-of-le}
@@ -34,7 +34,7 @@ use Rattle.block.specs.Ready.{Covers, Ready}
 use Rattle.block.proofs.Calming.{calm-is, calm-stays}
 use Rattle.block.proofs.Wholes.{covers-as}
 use Rattle.voice.specs.Calls.{called, blocked}
-use Rattle.voice.specs.Calm.{calmTests, isCalm, calmPlayed}
+use Rattle.voice.specs.Calm.{calmTests, isCalm}
 use Rattle.voice.specs.Others.{othersFit, listCalm}
 use Rattle.voice.specs.Quiet.{restTests}
 use Rattle.voice.specs.Tests.{rateFits, overPlayers, formTests, wellFormed, programFits, stateFits, partsFit, lengthsOf, inTime}
@@ -107,25 +107,30 @@ own-calm n id s ps ks b e f =
 
 -- ---- what it leaves
 
+-- the players have sounded over all its n frames, and then the session hears of those that ended
+unfoldable pub calmPlayed : Sounds → Tune → Bool → List Float → ℕ → Session → SampleVoice → Played
+calmPlayed x t on amp n s v =
+    let m = calmPart x t on amp (v .players) n in
+    record {
+      both = settled (m .mixed .ended) (record { session = s; voice = withPlayers (m .mixed .players) v });
+      left = m .left;
+      right = m .right;
+    }
+
 module _ (x : Sounds) (t : Tune) (on : Bool) (amp : List Float) (n : ℕ) (s : Session) (v : SampleVoice) where
-  pub left-by : (u : Tune) → u ≡ t → (m : Mixture) → m ≡ calmPart x u on amp (v .players) n → (w : SampleVoice) → w ≡ withPlayers (m .mixed .players) v
-      → (b : Both) → b ≡ settled (m .mixed .ended) (record { session = s; voice = w })
+  pub left-by : (u : Tune) → u ≡ t → (m : Mixture) → m ≡ calmPart x u on amp (v .players) n
+      → (b : Both) → b ≡ settled (m .mixed .ended) (record { session = s; voice = withPlayers (m .mixed .players) v })
       → _≡_ {A = Played} (record { both = b; left = m .left; right = m .right }) (calmPlayed x t on amp n s v)
   unfolding calmPlayed
-  left-by u eu m em w ew b eb =
-      ap (λ (z : Both). record { both = z; left = m .left; right = m .right }) (eb ∙ ap (λ (z : SampleVoice). settled (m .mixed .ended) (record { session = s; voice = z })) ew)
+  left-by u eu m em b eb =
+      ap (λ (z : Both). record { both = z; left = m .left; right = m .right }) eb
       ∙ ap (λ (k : Mixture). record { both = settled (k .mixed .ended) (record { session = s; voice = withPlayers (k .mixed .players) v }); left = k .left; right = k .right })
       (em ∙ ap (λ (z : Tune). calmPart x z on amp (v .players) n) eu)
 
--- the players that sounded are those of the voice
-pub placed-ok : (ps : Players) (v w : SampleVoice) → w ≡ withPlayers ps v → PlayersOk ps → PlayersOk (w .players)
-placed-ok ps v w e ok = subst (λ (z : SampleVoice). PlayersOk (z .players)) (sym e) ok
-
 -- nothing ended, and nobody is done
-pub stays-as : (e : Slots) (s : Session) (v w : SampleVoice) (ps : Players) → w ≡ withPlayers ps v → PlayersOk ps → e .count ≡ 0
-    → (over : Bool) → over ≡ any isOver (sounding ps) → not over ≡ true → record { session = s; voice = w } ≡ settled e (record { session = s; voice = w })
-stays-as e s v w ps ew ok none over told not-over =
-    sym (calm-stays e s w (placed-ok ps v w ew ok) none (ap (λ (z : SampleVoice). any isOver (sounding (z .players))) ew ∙ sym told ∙ not-true over not-over))
+pub stays-as : (e : Slots) (s : Session) (v : SampleVoice) (ps : Players) → PlayersOk ps → e .count ≡ 0 → (over : Bool) → over ≡ any isOver (sounding ps) → not over ≡ true
+    → record { session = s; voice = withPlayers ps v } ≡ settled e (record { session = s; voice = withPlayers ps v })
+stays-as e s v ps ok none over told not-over = sym (calm-stays e s (withPlayers ps v) ok none (sym told ∙ not-true over not-over))
 
 -- ---- the call
 

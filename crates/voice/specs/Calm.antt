@@ -9,12 +9,7 @@ use Rattle.program.specs.Valid.{every}
 use Rattle.players.specs.Seats.{sounding, slotNumbers}
 use Rattle.players.specs.Sound.{playersFit, samplesFit}
 use Rattle.session.specs.declared.Session.{Session}
-use Rattle.players.specs.Mix.{Sounds}
-use Rattle.players.specs.declared.mix.Tune.{Tune}
-use Rattle.events.specs.Voice.{withPlayers}
 use Rattle.events.specs.declared.SampleVoice.{SampleVoice}
-use Rattle.block.specs.Block.{Played}
-use Rattle.block.specs.Calm.{calmPart, settled}
 use Rattle.block.specs.Next.{nextGate}
 use Rattle.block.specs.declared.BlockTime.{BlockTime}
 use Rattle.block.specs.declared.Connected.{Connected}
@@ -32,13 +27,3 @@ calmTests t c gate ws ss frames table s v =
 -- 8 and 9 pass, the gate does not turn, and no off time waits on the voice's records
 unfoldable pub isCalm : BlockTime → Connected → List Float → List ℕ → List ℕ → ℕ → ℕ → Session → SampleVoice → Bool
 isCalm t c gate ws ss frames table s v = every (calmTests t c gate ws ss frames table s v)
-
--- what it leaves: the players have sounded over all its n frames, and then the session hears of those that ended
-unfoldable pub calmPlayed : Sounds → Tune → Bool → List Float → ℕ → Session → SampleVoice → Played
-calmPlayed x t on amp n s v =
-    let m = calmPart x t on amp (v .players) n in
-    record {
-      both = settled (m .mixed .ended) (record { session = s; voice = withPlayers (m .mixed .players) v });
-      left = m .left;
-      right = m .right;
-    }

@@ -13,8 +13,10 @@ ghost use Rattle.voice.specs.Calls.{numberOf, called, freshVoice, made, 
 ghost use Rattle.voice.specs.Numbers.{makeNumber, blockNumber, askNumber, endNumber};
 use block::BlockTime;
 use block::Connected;
+use block::calm::play_calm;
+use block::calm::settle;
+use block::calm::tune_of;
 use block::play_block;
-use calm::calm_block;
 use calm::is_calm;
 use check::in_time;
 use check::parts_fit;
@@ -231,19 +233,38 @@ pub fn block(
         return refused(Answer::Done, s, v);
     }
     if is_calm(s, v, t, c, gate, words, samples, pcm.len(), table.len()) {
-        return calm_block(
-            s,
-            v,
-            c,
+        // in place, since a call of its own would copy session and voice once more
+        let note = v.note;
+        let x = tune_of(note, c, freq, bend);
+        let ps = v.players;
+        let m = play_calm(
+            ps,
+            x,
+            c.amp,
             samples,
             pcm,
             table,
-            freq,
             amp,
-            bend,
             &mut left[0..n],
             &mut right[0..n],
         );
+        let mut w = v;
+        let players = m.players;
+        w.players = players;
+        if m.ended.count == 0 {
+            if !m.over {
+                return refused(Answer::Done, s, w);
+            }
+        }
+        let ended = m.ended;
+        let b = settle(s, w, ended);
+        let session = b.session;
+        let voice = b.voice;
+        return Called {
+            answer: Answer::Done,
+            session,
+            voice,
+        };
     }
     if !state_fits(s, v, words, samples, pcm.len(), table.len()) {
         return refused(Answer::BadState, s, v);

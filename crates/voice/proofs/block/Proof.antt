@@ -1,16 +1,17 @@
 use denote.Ref.{now}
-use mathlib.Core.Path.{_≡_, sym, ap, _∙_}
+use mathlib.Core.Path.{_≡_, refl, sym, ap, _∙_}
 use mathlib.Core.Bool.{true}
 use lib.ListN.{length}
 use borrow.Author.Tests.{not-true, not-false}
 use borrow.Author.Needs.{needs}
 use Rattle.session.proofs.Walks.{long}
 use Rattle.block.specs.Inputs.{Lent}
+use Rattle.voice.specs.declared.Called.{Called}
 use Rattle.voice.specs.Tests.{partsFit, lengthsOf, stateFits, inTime}
 use Rattle.voice.proofs.Refusals.{block-7, block-8, block-9}
 use Rattle.block.proofs.Wholes.{covers-as}
 use Rattle.voice.proofs.Passed.{in-left, in-right, part-length, ready, block-out}
-use Rattle.voice.proofs.Calming.{calm-asks, calm-out}
+use Rattle.voice.proofs.Calming.{calm-asks, calm-out, left-by, stays-as}
 use Rattle.voice.proofs.Idle.{gate-covers, amp-covers, quiet-out}
 use Rattle.voice.proofs.Numbers.{block-promise}
 use Rattle.voice.proofs.block.Statement.{statement}
@@ -50,17 +51,17 @@ still c = c .before .before
 abbrev calmed : tie.Else3 → tie.Else2
 calmed c = c .before .before
 
-abbrev first : tie.Else4 → tie.Else1
+abbrev first : tie.Else6 → tie.Else1
 first c = still (calmed (c .before .before))
 
-passed-8 : (c : tie.Else4) → let e = entry (first c) .args in stateFits (e .s) (e .v) (now (e .words)) (now (e .samples)) (length (now (e .pcm))) (length (now (e .table))) ≡ true
-passed-8 c = sym (c .before .state-fits .ensures) ∙ not-false _ (c .if4 .left)
+passed-8 : (c : tie.Else6) → let e = entry (first c) .args in stateFits (e .s) (e .v) (now (e .words)) (now (e .samples)) (length (now (e .pcm))) (length (now (e .table))) ≡ true
+passed-8 c = sym (c .before .state-fits .ensures) ∙ not-false _ (c .if6 .left)
 
-abbrev second : tie.Else5 → tie.Else4
+abbrev second : tie.Else7 → tie.Else6
 second c = c .before .before
 
-passed-9 : (c : tie.Else5) → let e = entry (first (second c)) .args in inTime (e .t .offset) (e .s .«event_serial») ≡ true
-passed-9 c = sym (c .before .in-time .ensures) ∙ not-false _ (c .if5 .left)
+passed-9 : (c : tie.Else7) → let e = entry (first (second c)) .args in inTime (e .t .offset) (e .s .«event_serial») ≡ true
+passed-9 c = sym (c .before .in-time .ensures) ∙ not-false _ (c .if7 .left)
 
 -- the places of the players, and of the records, as their types have them
 sized : (e : tie.Start) → length (e .args .v .players .players) ≡ 32
@@ -120,26 +121,32 @@ returns-2 c = let d = c .before .before .before .before .before .before .before 
 is-calm-requires : tie.Need-is-calm-requires
 is-calm-requires c κs = gate-covers (lent (entry (still c))) (passed-7 (still c))
 
-sub-calm-block : tie.Need-sub-calm-block
-sub-calm-block c = search needs
+tune-of-requires : tie.Need-tune-of-requires
+tune-of-requires c κs = let d = still (c .before .before) in let e = entry d in let p = (calm-asks (lent e) (e .args .s) (e .args .v) (sym (c .before .is-calm .ensures) ∙ c .if3 .taken) (listed e) (sized e) (passed-7 d)) in (p .4, p .5)
 
-part-calm-block-start : tie.Need-part-calm-block-start
-part-calm-block-start c = search needs
+sub-play-calm : tie.Need-sub-play-calm
+sub-play-calm c = search needs
 
-part-calm-block-end : tie.Need-part-calm-block-end
-part-calm-block-end c = let d = still (c .before .before) in let e = entry d in in-left (lent e) (e .args .s) (e .args .v) (passed-7 d)
+part-play-calm-start : tie.Need-part-play-calm-start
+part-play-calm-start c = search needs
 
-sub-calm-block-2 : tie.Need-sub-calm-block-2
-sub-calm-block-2 c = search needs
+part-play-calm-end : tie.Need-part-play-calm-end
+part-play-calm-end c = let d = still (c .before .before .before .before) in let e = entry d in in-left (lent e) (e .args .s) (e .args .v) (passed-7 d)
 
-part-calm-block-start-2 : tie.Need-part-calm-block-start-2
-part-calm-block-start-2 c = search needs
+sub-play-calm-2 : tie.Need-sub-play-calm-2
+sub-play-calm-2 c = search needs
 
-part-calm-block-end-2 : tie.Need-part-calm-block-end-2
-part-calm-block-end-2 c = let d = still (c .before .before .before) in let e = entry d in in-right (lent e) (e .args .s) (e .args .v) (passed-7 d)
+part-play-calm-start-2 : tie.Need-part-play-calm-start-2
+part-play-calm-start-2 c = search needs
 
-calm-block-requires : tie.Need-calm-block-requires
-calm-block-requires c κs = let d = still (c .before .before .before .before) in let e = entry d in calm-asks (lent e) (e .args .s) (e .args .v) (sym (c .before .before .before .is-calm .ensures) ∙ c .before .before .if3 .taken) (listed e) (sized e) (passed-7 d)
+part-play-calm-end-2 : tie.Need-part-play-calm-end-2
+part-play-calm-end-2 c = let d = still (c .before .before .before .before .before) in let e = entry d in in-right (lent e) (e .args .s) (e .args .v) (passed-7 d)
+
+play-calm-requires : tie.Need-play-calm-requires
+play-calm-requires c κs = let d = still (c .before .before .before .before .before .before) in let e = entry d in let p = (calm-asks (lent e) (e .args .s) (e .args .v) (sym (c .before .before .before .before .before .is-calm .ensures) ∙ c .before .before .before .before .if3 .taken) (listed e) (sized e) (passed-7 d)) in (p .0, p .1, p .2, p .3)
+
+refused-requires-3 : tie.Need-refused-requires-3
+refused-requires-3 c κs = search needs
 
 same-length-3 : tie.Need-same-length-3
 same-length-3 c = search needs
@@ -148,25 +155,52 @@ same-length-4 : tie.Need-same-length-4
 same-length-4 c = search needs
 
 returns-3 : tie.Need-returns-3
-returns-3 c = let d = still (c .before .before .before .before .before .before .before .before .before) in let e = entry d in block-promise (lent e) (e .args .s) (e .args .v) (calm-out (lent e) (e .args .s) (e .args .v) (sym (c .before .before .before .before .before .before .before .before .is-calm .ensures) ∙ c .before .before .before .before .before .before .before .if3 .taken) (listed e) (sized e) (passed-7 d) _ (c .before .before .before .before .calm-block .ensures .1) _ _ (c .before .before .before .before .calm-block .ensures .0) (same-length-3 c) (same-length-4 c))
+returns-3 c =
+    let d = still (c .before .before .before .before .before .before .before .before .before .before .before .before .before .before .before .before .before) in
+    let e = entry d in
+    let m = c .before .before .before .before .before .before .before .before .before .before .play-calm in
+    block-promise (lent e) (e .args .s) (e .args .v)
+    (calm-out (lent e) (e .args .s) (e .args .v) (sym (c .before .before .before .before .before .before .before .before .before .before .before .before .before .before .before .before .is-calm .ensures) ∙ c .before .before .before .before .before .before .before .before .before .before .before .before .before .before .before .if3 .taken) (listed e) (sized e) (passed-7 d) _ (ap (λ (z : Called). z .answer) (c .refused3 .ensures)) _ _
+    (left-by _ _ _ _ _ (e .args .s) (e .args .v) _ (c .before .before .before .before .before .before .before .before .before .before .before .before .before .before .tune-of .ensures) _ (m .ensures .0) _
+    (ap (λ (z : Called). record { session = z .session; voice = z .voice }) (c .refused3 .ensures) ∙ stays-as _ (e .args .s) (e .args .v) _ (m .ensures .2) (c .before .before .before .if4 .taken) _ (m .ensures .1) (c .before .if5 .taken)))
+    (same-length-3 c) (same-length-4 c))
+
+settle-requires : tie.Need-settle-requires
+settle-requires c κs = search needs
+
+same-length-5 : tie.Need-same-length-5
+same-length-5 c = search needs
+
+same-length-6 : tie.Need-same-length-6
+same-length-6 c = search needs
+
+returns-4 : tie.Need-returns-4
+returns-4 c =
+    let d = still (c .before .before .before .before .before .before .before .before .before .before .before .before .before .before .before .before .before .before) in
+    let e = entry d in
+    let m = c .before .before .before .before .before .before .before .before .before .before .before .play-calm in
+    block-promise (lent e) (e .args .s) (e .args .v)
+    (calm-out (lent e) (e .args .s) (e .args .v) (sym (c .before .before .before .before .before .before .before .before .before .before .before .before .before .before .before .before .before .is-calm .ensures) ∙ c .before .before .before .before .before .before .before .before .before .before .before .before .before .before .before .before .if3 .taken) (listed e) (sized e) (passed-7 d) _ refl _ _
+    (left-by _ _ _ _ _ (e .args .s) (e .args .v) _ (c .before .before .before .before .before .before .before .before .before .before .before .before .before .before .before .tune-of .ensures) _ (m .ensures .0) _ (c .before .before .settle .ensures .0))
+    (same-length-5 c) (same-length-6 c))
 
 state-fits-requires : tie.Need-state-fits-requires
 state-fits-requires c κs = search needs
-
-refused-requires-3 : tie.Need-refused-requires-3
-refused-requires-3 c κs = search needs
-
-returns-4 : tie.Need-returns-4
-returns-4 c = let d = still (calmed (c .before .before .before)) in let e = entry d in block-promise (lent e) (e .args .s) (e .args .v) (block-8 (lent e) (e .args .s) (e .args .v) (passed-7 d) _ (c .refused3 .ensures) (sym (c .before .before .state-fits .ensures) ∙ not-true _ (c .before .if4 .taken)))
-
-in-time-requires : tie.Need-in-time-requires
-in-time-requires c κs = search needs
 
 refused-requires-4 : tie.Need-refused-requires-4
 refused-requires-4 c κs = search needs
 
 returns-5 : tie.Need-returns-5
-returns-5 c = let f = c .before .before .before in let e = entry (first f) in block-promise (lent e) (e .args .s) (e .args .v) (block-9 (lent e) (e .args .s) (e .args .v) (passed-7 (first f)) (passed-8 f) _ (c .refused4 .ensures) (sym (c .before .before .in-time .ensures) ∙ not-true _ (c .before .if5 .taken)))
+returns-5 c = let d = still (calmed (c .before .before .before)) in let e = entry d in block-promise (lent e) (e .args .s) (e .args .v) (block-8 (lent e) (e .args .s) (e .args .v) (passed-7 d) _ (c .refused4 .ensures) (sym (c .before .before .state-fits .ensures) ∙ not-true _ (c .before .if6 .taken)))
+
+in-time-requires : tie.Need-in-time-requires
+in-time-requires c κs = search needs
+
+refused-requires-5 : tie.Need-refused-requires-5
+refused-requires-5 c κs = search needs
+
+returns-6 : tie.Need-returns-6
+returns-6 c = let f = c .before .before .before in let e = entry (first f) in block-promise (lent e) (e .args .s) (e .args .v) (block-9 (lent e) (e .args .s) (e .args .v) (passed-7 (first f)) (passed-8 f) _ (c .refused5 .ensures) (sym (c .before .before .in-time .ensures) ∙ not-true _ (c .before .if7 .taken)))
 
 sub-play-block : tie.Need-sub-play-block
 sub-play-block c = search needs
@@ -189,14 +223,14 @@ part-play-block-end-2 c = let d = first (second (c .before)) in let e = entry d 
 play-block-requires : tie.Need-play-block-requires
 play-block-requires c κs = let g = c .before .before in let f = second g in let e = entry (first f) in ready (lent e) (e .args .s) (e .args .v) (sized e) (passed-7 (first f)) (passed-8 f) (passed-9 g)
 
-same-length-5 : tie.Need-same-length-5
-same-length-5 c = search needs
+same-length-7 : tie.Need-same-length-7
+same-length-7 c = search needs
 
-same-length-6 : tie.Need-same-length-6
-same-length-6 c = search needs
+same-length-8 : tie.Need-same-length-8
+same-length-8 c = search needs
 
-returns-6 : tie.Need-returns-6
-returns-6 c = let g = c .before .before .before .before .before .before .before .before .before in let f = second g in let d = first f in let e = entry d in block-promise (lent e) (e .args .s) (e .args .v) (block-out (lent e) (e .args .s) (e .args .v) (passed-7 d) (passed-8 f) (passed-9 g) _ _ _ (c .before .before .before .before .before .before .play-block .ensures .0) (same-length-5 c) (same-length-6 c))
+returns-7 : tie.Need-returns-7
+returns-7 c = let g = c .before .before .before .before .before .before .before .before .before in let f = second g in let d = first f in let e = entry d in block-promise (lent e) (e .args .s) (e .args .v) (block-out (lent e) (e .args .s) (e .args .v) (passed-7 d) (passed-8 f) (passed-9 g) _ _ _ (c .before .before .before .before .before .before .play-block .ensures .0) (same-length-7 c) (same-length-8 c))
 
 pub block-spec : {M : Type 1} → statement M
 block-spec =
@@ -219,22 +253,28 @@ block-spec =
     same-length-2
     returns-2
     is-calm-requires
-    sub-calm-block
-    part-calm-block-start
-    part-calm-block-end
-    sub-calm-block-2
-    part-calm-block-start-2
-    part-calm-block-end-2
-    calm-block-requires
+    tune-of-requires
+    sub-play-calm
+    part-play-calm-start
+    part-play-calm-end
+    sub-play-calm-2
+    part-play-calm-start-2
+    part-play-calm-end-2
+    play-calm-requires
+    refused-requires-3
     same-length-3
     same-length-4
     returns-3
-    state-fits-requires
-    refused-requires-3
+    settle-requires
+    same-length-5
+    same-length-6
     returns-4
-    in-time-requires
+    state-fits-requires
     refused-requires-4
     returns-5
+    in-time-requires
+    refused-requires-5
+    returns-6
     sub-play-block
     part-play-block-start
     part-play-block-end
@@ -242,6 +282,6 @@ block-spec =
     part-play-block-start-2
     part-play-block-end-2
     play-block-requires
-    same-length-5
-    same-length-6
-    returns-6)
+    same-length-7
+    same-length-8
+    returns-7)
