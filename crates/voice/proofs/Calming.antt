@@ -1,4 +1,4 @@
--- A block without events passes the tests 8 and 9, and leaves what the plain way leaves. Assumes nothing.
+-- What two walks find to fit passes the tests 8 and 9, and a block without events leaves what the plain way leaves. Assumes nothing.
 use Prim.Native.Nat.{ℕ, _-_, _≤_}
 use mathlib.Core.Path.{_≡_, sym, ap, _∙_}
 use mathlib.Core.Bool.{Bool, true, false, not, _&&_}
@@ -18,8 +18,7 @@ use Rattle.players.specs.declared.mix.Tune.{Tune}
 use Rattle.players.proofs.Kept.{sounding-few}
 use Rattle.players.proofs.Seating.{slots-from}
 use Rattle.session.specs.Lists.{any}
-use Rattle.session.specs.Records.{waits}
-use Rattle.session.specs.State.{view, slotList}
+use Rattle.session.specs.State.{slotList}
 use Rattle.session.specs.Tests.{isLive, overLive, twiceLive, strayRecord, overRecords, overVoice, overHeld, regionOutside, slotsInOrder}
 use Rattle.session.specs.declared.Session.{Session}
 use Rattle.session.specs.declared.Slots.{Slots}
@@ -34,44 +33,37 @@ use Rattle.block.specs.Ready.{Covers, Ready}
 use Rattle.block.proofs.Calming.{calm-is, calm-stays}
 use Rattle.block.proofs.Wholes.{covers-as}
 use Rattle.voice.specs.Calls.{called, blocked}
-use Rattle.voice.specs.Calm.{calmTests, isCalm}
-use Rattle.voice.specs.Others.{othersFit, listCalm}
+use Rattle.voice.specs.Calm.{lookTests, lookFits}
+use Rattle.voice.specs.Others.{othersFit, listFits, offWaits}
 use Rattle.voice.specs.Quiet.{restTests}
 use Rattle.voice.specs.Tests.{rateFits, overPlayers, formTests, wellFormed, programFits, stateFits, partsFit, lengthsOf, inTime}
 use Rattle.voice.specs.declared.Answer.{Answer}
 use Rattle.voice.specs.declared.Answer.the-variants.{Done}
 use Rattle.voice.specs.declared.Called.{Called}
+use Rattle.voice.specs.declared.tally.Look.{Look}
 use Rattle.voice.proofs.Passed.{withOuts, ready, block-out}
 use Rattle.voice.proofs.Tallies.{and-both, fit-tells}
 
-module _ (n id : ℕ) (ks : List ℕ) (s : Session) (calm : listCalm n id ks s ≡ true) where
-  parts : (othersFit n 0 s ≡ true) × (slotsInOrder id ks s ≡ true) × (any (waits id) (view s) ≡ false)
-  unfolding listCalm
-  parts =
-      let a = and-both (othersFit n 0 s) _ calm in
-      let b = and-both (slotsInOrder id ks s) _ (a .1) in
-      (a .0, b .0, not-true _ (b .1))
-
-module _ (l : Lent) (s : Session) (v : SampleVoice)
-    (calm : isCalm (l .time) (l .connected) (l .gate) (l .words) (l .samples) (length (l .pcm)) (length (l .table)) s v ≡ true) where
-  at : (i : ℕ) → getD (calmTests (l .time) (l .connected) (l .gate) (l .words) (l .samples) (length (l .pcm)) (length (l .table)) s v) i true ≡ true
-  unfolding isCalm
-  at i = every-at (calmTests (l .time) (l .connected) (l .gate) (l .words) (l .samples) (length (l .pcm)) (length (l .table)) s v) i calm
+module _ (l : Lent) (s : Session) (v : SampleVoice) (fits : lookFits (l .time) (l .words) (l .samples) (length (l .pcm)) (length (l .table)) s v ≡ true) where
+  at : (i : ℕ) → getD (lookTests (l .time) (l .words) (l .samples) (length (l .pcm)) (length (l .table)) s v) i true ≡ true
+  unfolding lookFits
+  at i = every-at (lookTests (l .time) (l .words) (l .samples) (length (l .pcm)) (length (l .table)) s v) i fits
 
   rest : (i : ℕ) → getD (restTests s v) i true ≡ true
-  rest i = every-at (restTests s v) i (at 1)
+  rest i = every-at (restTests s v) i (at 0)
 
-  listed : (othersFit (v .program .regions) 0 s ≡ true) × (slotsInOrder (v .voice) (slotNumbers (sounding (v .players))) s ≡ true) × (any (waits (v .voice)) (view s) ≡ false)
-  listed = parts (v .program .regions) (v .voice) (slotNumbers (sounding (v .players))) s (at 6)
+  listed : (othersFit (v .program .regions) 0 s ≡ true) × (slotsInOrder (v .voice) (slotNumbers (sounding (v .players))) s ≡ true)
+  unfolding listFits
+  listed = and-both (othersFit (v .program .regions) 0 s) _ (at 5)
 
   fit : (playersFit (v .program) (v .players) ≡ true) × (samplesFit (l .samples) (v .players) ≡ true)
-  fit = and-both (playersFit (v .program) (v .players)) _ (at 5)
+  fit = and-both (playersFit (v .program) (v .players)) _ (at 4)
 
   formed : wellFormed s v ≡ true
   unfolding wellFormed
   formed =
       let x = fit-tells (v .program .regions) 0 s (listed .0) in
-      let g = at 2 in
+      let g = at 1 in
       let h = rest 0 in
       let i = rest 1 in
       let j = rest 2 in
@@ -82,28 +74,39 @@ module _ (l : Lent) (s : Session) (v : SampleVoice)
       let q = fit .0 in
       simp (g, h, i, j, k, m, n, p, q, x .0, x .1, x .2)
 
-  pub calm-state : stateFits s v (l .words) (l .samples) (length (l .pcm)) (length (l .table)) ≡ true
+  pub look-state : stateFits s v (l .words) (l .samples) (length (l .pcm)) (length (l .table)) ≡ true
   unfolding programFits
-  calm-state = let f = fit .1 in simp (formed, at 3, f)
+  look-state = let f = fit .1 in simp (formed, at 2, f)
 
-  pub calm-time : inTime (l .time .offset) (s .«event_serial») ≡ true
-  calm-time = at 4
+  pub look-time : inTime (l .time .offset) (s .«event_serial») ≡ true
+  look-time = at 3
 
-  pub calm-few : s .count ≤ 512
-  calm-few = ltb-false 512 (s .count) (not-true _ (rest 3))
-
-  pub calm-still : any (waits (v .voice)) (view s) ≡ false
-  calm-still = listed .2
-
-  pub calm-gate : nextGate (v .«gate_prev») (l .connected .gate) (l .gate) 0 (l .time .frames) ≡ l .time .frames
-  calm-gate = eqb-true _ _ (at 0)
+  look-few : s .count ≤ 512
+  look-few = ltb-false 512 (s .count) (not-true _ (rest 3))
 
 -- the slots that the voice tells are its players'
-pub own-calm : (n id : ℕ) (s : Session) (ps : Players) (ks : Slots) (b : Bool) → ks ≡ slotsFrom (slotNumbers (sounding ps))
-    → b ≡ listCalm n id (slotList ks) s → b ≡ listCalm n id (slotNumbers (sounding ps)) s
-own-calm n id s ps ks b e f =
+pub own-fits : (n id : ℕ) (s : Session) (ps : Players) (ks : Slots) (b : Bool) → ks ≡ slotsFrom (slotNumbers (sounding ps))
+    → b ≡ listFits n id (slotList ks) s → b ≡ listFits n id (slotNumbers (sounding ps)) s
+own-fits n id s ps ks b e f =
     let few : length (slotNumbers (sounding ps)) ≤ 32 = rw (length-map (sounding ps) (λ p. p .slot)) (sounding-few ps) in
-    f ∙ ap (λ (k : Slots). listCalm n id (slotList k) s) e ∙ ap (λ (k : List ℕ). listCalm n id k s) (slots-from (slotNumbers (sounding ps)) few)
+    f ∙ ap (λ (k : Slots). listFits n id (slotList k) s) e ∙ ap (λ (k : List ℕ). listFits n id k s) (slots-from (slotNumbers (sounding ps)) few)
+
+-- ---- without events
+
+-- 8 and 9 pass, no off time waits on the voice's records, and the gate does not turn
+pub record Calm (l : Lent) (s : Session) (v : SampleVoice) : Type 0 where
+  pub fits : lookFits (l .time) (l .words) (l .samples) (length (l .pcm)) (length (l .table)) s v ≡ true
+  pub still : offWaits (v .voice) s ≡ false
+  pub gate : nextGate (v .«gate_prev») (l .connected .gate) (l .gate) 0 (l .time .frames) ≡ l .time .frames
+
+-- as the look and the gate tell it
+pub calm-told : (l : Lent) (s : Session) (v : SampleVoice) (k : Look)
+    → (k .fits ≡ lookFits (l .time) (l .words) (l .samples) (length (l .pcm)) (length (l .table)) s v) × (k .fits ≡ true → k .waits ≡ offWaits (v .voice) s)
+    → (b : Bool) → b ≡ (k .fits && (not (k .waits) && eqb (nextGate (v .«gate_prev») (l .connected .gate) (l .gate) 0 (l .time .frames)) (l .time .frames))) → b ≡ true → Calm l s v
+calm-told l s v k h b e f =
+    let p = and-both (k .fits) _ (sym e ∙ f) in
+    let q = and-both (not (k .waits)) _ (p .1) in
+    record { fits = sym (h .0) ∙ p .0; still = sym (h .1 (p .0)) ∙ not-true (k .waits) (q .0); gate = eqb-true _ _ (q .1) }
 
 -- ---- what it leaves
 
@@ -135,8 +138,7 @@ stays-as e s v ps ok none over told not-over = sym (calm-stays e s (withPlayers 
 -- ---- the call
 
 module _ (l : Lent) (s : Session) (v : SampleVoice)
-    (calm : isCalm (l .time) (l .connected) (l .gate) (l .words) (l .samples) (length (l .pcm)) (length (l .table)) s v ≡ true)
-    (size : length (s .players) ≡ 512) (places : length (v .players .players) ≡ 32) (fits : partsFit (l .time .frames) (l .connected) (lengthsOf l) ≡ true) where
+    (calm : Calm l s v) (size : length (s .players) ≡ 512) (places : length (v .players .players) ≡ 32) (fits : partsFit (l .time .frames) (l .connected) (lengthsOf l) ≡ true) where
   abbrev n : ℕ
   n = l .time .frames
 
@@ -144,7 +146,7 @@ module _ (l : Lent) (s : Session) (v : SampleVoice)
   front xs = take (n - 0) (drop 0 xs)
 
   able : Ready (withOuts l (front (l .left)) (front (l .right))) v
-  able = ready l s v places fits (calm-state l s v calm) (calm-time l s v calm)
+  able = ready l s v places fits (look-state l s v (calm .fits)) (look-time l s v (calm .fits))
 
   -- what the block leans on
   pub calm-asks : PlayersOk (v .players) × (8194 ≤ length (l .table)) × (length (front (l .right)) ≡ length (front (l .left))) × Covers (l .connected .amp) (l .amp) (length (front (l .left)))
@@ -161,11 +163,11 @@ module _ (l : Lent) (s : Session) (v : SampleVoice)
       → record { called = r; left = take 0 (l .left) ++ (xs ++ drop (n - 0) (drop 0 (l .left))); right = take 0 (l .right) ++ (ys ++ drop (n - 0) (drop 0 (l .right))) } ≡ blocked l s v
   unfolding calmPlayed
   calm-out r done xs ys e f g =
-      let same = calm-is l s v size (calm-few l s v calm) (calm-still l s v calm) (able .some) (calm-gate l s v calm) in
+      let same = calm-is l s v size (look-few l s v (calm .fits)) (calm .still) (able .some) (calm .gate) in
       ap (λ (a : Answer). record {
         called = called a (r .session) (r .voice);
         left = take 0 (l .left) ++ (xs ++ drop (n - 0) (drop 0 (l .left)));
         right = take 0 (l .right) ++ (ys ++ drop (n - 0) (drop 0 (l .right)));
       }) done
-      ∙ block-out l s v fits (calm-state l s v calm) (calm-time l s v calm) (record { both = record { session = r .session; voice = r .voice }; left = xs; right = ys }) (l .left) (l .right)
+      ∙ block-out l s v fits (look-state l s v (calm .fits)) (look-time l s v (calm .fits)) (record { both = record { session = r .session; voice = r .voice }; left = xs; right = ys }) (l .left) (l .right)
       (e ∙ ap (λ (k : ℕ). calmPlayed (soundsOf (cuesOf l)) (tuneOf (v .note) (l .connected) (l .freq) (l .bend)) (l .connected .amp) (l .amp) k s v) (able .left) ∙ sym same) f g

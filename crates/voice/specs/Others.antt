@@ -23,6 +23,10 @@ amiss n id r = leb n (r .region) || eqb (r .voice) id
 unfoldable pub othersFit : ℕ → ℕ → Session → Bool
 othersFit n id s = not (strayRecord s) && (not (overVoice s) && (not (regionOutside n s) && not (any (ofVoice id) (view s))))
 
--- the same with records of the voice, ids counted from 1: they have the slots ks in order, and no off time waits on them
-unfoldable pub listCalm : ℕ → ℕ → List ℕ → Session → Bool
-listCalm n id ks s = othersFit n 0 s && (slotsInOrder id ks s && not (any (waits id) (view s)))
+-- the same with records of the voice, ids counted from 1: they have the slots ks in order
+unfoldable pub listFits : ℕ → ℕ → List ℕ → Session → Bool
+listFits n id ks s = othersFit n 0 s && slotsInOrder id ks s
+
+-- an off time waits on a record of the voice
+abbrev pub offWaits : ℕ → Session → Bool
+offWaits id s = any (waits id) (view s)

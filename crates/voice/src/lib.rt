@@ -18,6 +18,7 @@ use block::calm::settle;
 use block::calm::tune_of;
 use block::play_block;
 use calm::is_calm;
+use calm::look;
 use check::in_time;
 use check::parts_fit;
 use check::rate_fits;
@@ -232,7 +233,17 @@ pub fn block(
         quiet_outputs(c.amp, amp, &mut left[0..n], &mut right[0..n]);
         return refused(Answer::Done, s, v);
     }
-    if is_calm(s, v, t, c, gate, words, samples, pcm.len(), table.len()) {
+    let k = look(s, v, t, words, samples, pcm.len(), table.len());
+    // the plain tests find out why it does not fit
+    if !k.fits {
+        if !state_fits(s, v, words, samples, pcm.len(), table.len()) {
+            return refused(Answer::BadState, s, v);
+        }
+        if !in_time(t.offset, s.event_serial) {
+            return refused(Answer::TooLate, s, v);
+        }
+    }
+    if is_calm(k, v.gate_prev, c.gate, gate, n) {
         // in place, since a call of its own would copy session and voice once more
         let note = v.note;
         let x = tune_of(note, c, freq, bend);
@@ -265,12 +276,6 @@ pub fn block(
             session,
             voice,
         };
-    }
-    if !state_fits(s, v, words, samples, pcm.len(), table.len()) {
-        return refused(Answer::BadState, s, v);
-    }
-    if !in_time(t.offset, s.event_serial) {
-        return refused(Answer::TooLate, s, v);
     }
     let b = play_block(
         s,

@@ -1,11 +1,11 @@
-// What a voice without players asks of the session's list, in one walk: the causes under 8 that the list shows, with a count for each
-// live voice.
+// What a voice asks of the session's list, in one walk: the causes under 8 that the list shows, with a count for each live voice.
+ghost use mathlib.Core.Bool.{true, false};
 ghost use mathlib.Core.Path.{_≡_};
 ghost use Prim.Native.Nat.{_≤_};
 ghost use lib.ListN.{length, take};
 ghost use Rattle.session.specs.Lists.{usedOf};
 ghost use Rattle.session.specs.State.{slotList};
-ghost use Rattle.voice.specs.Others.{placeIn, amiss, othersFit, listCalm};
+ghost use Rattle.voice.specs.Others.{placeIn, amiss, othersFit, listFits, offWaits};
 use session::PlayerRecord;
 use session::Session;
 use session::Slots;
@@ -84,10 +84,26 @@ pub fn others_fit(s: Session, regions: u32, voice: u64) -> bool
     tally_fits(s, regions, voice)
 }
 
-// The same with records of the voice: they are its players' slots in order, and no off time waits on them. A record of the id 0, which
-// no call makes, is not told apart from a stray one.
-pub fn list_calm(s: Session, regions: u32, voice: u64, own: Slots) -> bool
-    ensures { λ b. ⌜ b ≡ listCalm regions voice (slotList own) s ⌝ }
+// What a look at the state found: whether it fits, and where it does, whether an off time waits on the voice's records.
+pub struct Look {
+    pub fits: bool,
+    pub waits: bool,
+}
+
+// It does not fit.
+pub fn misfit() -> Look
+    ensures { λ r. ⌜ r ≡ record { fits = false; waits = false } ⌝ }
+{
+    Look {
+        fits: false,
+        waits: false,
+    }
+}
+
+// What any voice asks of the list, in one walk: its own records are its players' slots in order. A record of the id 0, which no call makes,
+// is not told apart from a stray one.
+pub fn list_look(s: Session, regions: u32, voice: u64, own: Slots) -> Look
+    ensures { λ r. ⌜ (r .fits ≡ listFits regions voice (slotList own) s) × (r .fits ≡ true → r .waits ≡ offWaits voice s) ⌝ }
 {
     let n = used(s.count, 512);
     let v = s.voices;
@@ -97,33 +113,37 @@ pub fn list_calm(s: Session, regions: u32, voice: u64, own: Slots) -> bool
     let mut counts = [0u32; 16];
     let mut i: usize = 0;
     let mut j: usize = 0;
+    let mut waits = false;
     while i < n {
         let r = s.players[i];
         if is_amiss(r, regions, 0) {
-            return false;
+            return misfit();
         }
         let p = place_of(&ids, live, r.voice);
         if live <= p {
-            return false;
+            return misfit();
         }
         let held = counts[p];
         if 32 <= held {
-            return false;
+            return misfit();
         }
         counts[p] = held + 1;
         if is_waiting(r, voice) {
-            return false;
+            waits = true;
         }
         i += 1;
         if r.voice == voice {
             if m <= j {
-                return false;
+                return misfit();
             }
             if own.slots[j] != r.slot {
-                return false;
+                return misfit();
             }
             j += 1;
         }
     }
-    j == m
+    Look {
+        fits: j == m,
+        waits,
+    }
 }

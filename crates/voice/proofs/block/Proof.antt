@@ -1,4 +1,5 @@
 use denote.Ref.{now}
+use mathlib.Core.Logic.{⊎-elim}
 use mathlib.Core.Path.{_≡_, refl, sym, ap, _∙_}
 use mathlib.Core.Bool.{true}
 use lib.ListN.{length}
@@ -11,7 +12,7 @@ use Rattle.voice.specs.Tests.{partsFit, lengthsOf, stateFits, inTime}
 use Rattle.voice.proofs.Refusals.{block-7, block-8, block-9}
 use Rattle.block.proofs.Wholes.{covers-as}
 use Rattle.voice.proofs.Passed.{in-left, in-right, part-length, ready, block-out}
-use Rattle.voice.proofs.Calming.{calm-asks, calm-out, left-by, stays-as}
+use Rattle.voice.proofs.Calming.{Calm, calm-told, look-state, look-time, calm-asks, calm-out, left-by, stays-as}
 use Rattle.voice.proofs.Idle.{gate-covers, amp-covers, quiet-out}
 use Rattle.voice.proofs.Numbers.{block-promise}
 use Rattle.voice.proofs.block.Statement.{statement}
@@ -44,24 +45,37 @@ entry c = c .before .before .before .before .before .before .before .before .bef
 passed-7 : (c : tie.Else1) → partsFit (entry c .args .t .frames) (entry c .args .c) (lengthsOf (lent (entry c))) ≡ true
 passed-7 c = sym (c .before .parts-fit .ensures ∙ ap (partsFit (entry c .args .t .frames) (entry c .args .c)) (c .before .before .lengths-of .ensures)) ∙ not-false _ (c .if1 .left)
 
--- past the quiet block
+-- past the quiet block, where the look was taken
 abbrev still : tie.Else2 → tie.Else1
 still c = c .before .before
 
-abbrev calmed : tie.Else3 → tie.Else2
-calmed c = c .before .before
+abbrev looked : tie.After-look → tie.Else1
+looked c = still (c .before)
 
-abbrev first : tie.Else6 → tie.Else1
-first c = still (calmed (c .before .before))
+-- where it does not fit
+abbrev amiss : tie.Then3 → tie.After-look
+amiss c = c .before .before
 
-passed-8 : (c : tie.Else6) → let e = entry (first c) .args in stateFits (e .s) (e .v) (now (e .words)) (now (e .samples)) (length (now (e .pcm))) (length (now (e .table))) ≡ true
-passed-8 c = sym (c .before .state-fits .ensures) ∙ not-false _ (c .if6 .left)
+abbrev first : tie.Else4 → tie.After-look
+first c = amiss (c .before .before)
 
-abbrev second : tie.Else7 → tie.Else6
-second c = c .before .before
+passed-8 : (c : tie.Else4) → let e = entry (looked (first c)) .args in stateFits (e .s) (e .v) (now (e .words)) (now (e .samples)) (length (now (e .pcm))) (length (now (e .table))) ≡ true
+passed-8 c = sym (c .before .state-fits .ensures) ∙ not-false _ (c .if4 .left)
 
-passed-9 : (c : tie.Else7) → let e = entry (first (second c)) .args in inTime (e .t .offset) (e .s .«event_serial») ≡ true
-passed-9 c = sym (c .before .in-time .ensures) ∙ not-false _ (c .if7 .left)
+-- past 8 and 9, as the look or the plain tests tell it
+abbrev past : tie.Joined3 → tie.After-look
+past c = c .before .before
+
+passed : (c : tie.Joined3) → let e = entry (looked (past c)) .args in
+    (stateFits (e .s) (e .v) (now (e .words)) (now (e .samples)) (length (now (e .pcm))) (length (now (e .table))) ≡ true) × (inTime (e .t .offset) (e .s .«event_serial») ≡ true)
+passed c =
+    let e = entry (looked (past c)) in
+    ⊎-elim (λ w. (sym (w .1 .ensures) ∙ not-false _ (w .2 .left), sym (w .3 .ensures) ∙ not-false _ (w .4 .left)))
+    (λ w. let f = sym (past c .look .ensures .0) ∙ not-false _ (w .left) in (look-state (lent e) (e .args .s) (e .args .v) f, look-time (lent e) (e .args .s) (e .args .v) f)) (c .if3 .came)
+
+-- a block without events
+calm : (c : tie.Then6) → let e = entry (looked (past (c .before .before))) in Calm (lent e) (e .args .s) (e .args .v)
+calm c = let e = entry (looked (past (c .before .before))) in calm-told (lent e) (e .args .s) (e .args .v) _ (past (c .before .before) .look .ensures) _ (c .before .is-calm .ensures) (c .if6 .taken)
 
 -- the places of the players, and of the records, as their types have them
 sized : (e : tie.Start) → length (e .args .v .players .players) ≡ 32
@@ -118,11 +132,32 @@ same-length-2 c = search needs
 returns-2 : tie.Need-returns-2
 returns-2 c = let d = c .before .before .before .before .before .before .before .before .before .before in let e = entry d in block-promise (lent e) (e .args .s) (e .args .v) (quiet-out (lent e) (e .args .s) (e .args .v) (sym (c .before .before .before .before .before .before .before .before .before .is-quiet .ensures) ∙ c .before .before .before .before .before .before .before .before .if2 .taken) (listed e) (passed-7 d) _ (c .refused2 .ensures) _ _ (c .before .before .before .before .before .quiet-outputs .ensures .0) (c .before .before .before .before .before .quiet-outputs .ensures .1) (same-length c) (same-length-2 c))
 
+look-requires : tie.Need-look-requires
+look-requires c κs = search needs
+
+state-fits-requires : tie.Need-state-fits-requires
+state-fits-requires c κs = search needs
+
+refused-requires-3 : tie.Need-refused-requires-3
+refused-requires-3 c κs = search needs
+
+returns-3 : tie.Need-returns-3
+returns-3 c = let d = looked (c .before .before .before .before .before) in let e = entry d in block-promise (lent e) (e .args .s) (e .args .v) (block-8 (lent e) (e .args .s) (e .args .v) (passed-7 d) _ (c .refused3 .ensures) (sym (c .before .before .state-fits .ensures) ∙ not-true _ (c .before .if4 .taken)))
+
+in-time-requires : tie.Need-in-time-requires
+in-time-requires c κs = search needs
+
+refused-requires-4 : tie.Need-refused-requires-4
+refused-requires-4 c κs = search needs
+
+returns-4 : tie.Need-returns-4
+returns-4 c = let d = looked (c .before .before .before .before .before .before .before) in let e = entry d in block-promise (lent e) (e .args .s) (e .args .v) (block-9 (lent e) (e .args .s) (e .args .v) (passed-7 d) (passed-8 (c .before .before .before)) _ (c .refused4 .ensures) (sym (c .before .before .in-time .ensures) ∙ not-true _ (c .before .if5 .taken)))
+
 is-calm-requires : tie.Need-is-calm-requires
-is-calm-requires c κs = gate-covers (lent (entry (still c))) (passed-7 (still c))
+is-calm-requires c κs = let d = looked (c .before .before) in let e = entry d in gate-covers (lent e) (passed-7 d)
 
 tune-of-requires : tie.Need-tune-of-requires
-tune-of-requires c κs = let d = still (c .before .before) in let e = entry d in let p = (calm-asks (lent e) (e .args .s) (e .args .v) (sym (c .before .is-calm .ensures) ∙ c .if3 .taken) (listed e) (sized e) (passed-7 d)) in (p .4, p .5)
+tune-of-requires c κs = let d = looked (c .before .before .before .before) in let e = entry d in let p = (calm-asks (lent e) (e .args .s) (e .args .v) (calm (c)) (listed e) (sized e) (passed-7 d)) in (p .4, p .5)
 
 sub-play-calm : tie.Need-sub-play-calm
 sub-play-calm c = search needs
@@ -131,7 +166,7 @@ part-play-calm-start : tie.Need-part-play-calm-start
 part-play-calm-start c = search needs
 
 part-play-calm-end : tie.Need-part-play-calm-end
-part-play-calm-end c = let d = still (c .before .before .before .before) in let e = entry d in in-left (lent e) (e .args .s) (e .args .v) (passed-7 d)
+part-play-calm-end c = let d = looked (c .before .before .before .before .before .before) in let e = entry d in in-left (lent e) (e .args .s) (e .args .v) (passed-7 d)
 
 sub-play-calm-2 : tie.Need-sub-play-calm-2
 sub-play-calm-2 c = search needs
@@ -140,13 +175,13 @@ part-play-calm-start-2 : tie.Need-part-play-calm-start-2
 part-play-calm-start-2 c = search needs
 
 part-play-calm-end-2 : tie.Need-part-play-calm-end-2
-part-play-calm-end-2 c = let d = still (c .before .before .before .before .before) in let e = entry d in in-right (lent e) (e .args .s) (e .args .v) (passed-7 d)
+part-play-calm-end-2 c = let d = looked (c .before .before .before .before .before .before .before) in let e = entry d in in-right (lent e) (e .args .s) (e .args .v) (passed-7 d)
 
 play-calm-requires : tie.Need-play-calm-requires
-play-calm-requires c κs = let d = still (c .before .before .before .before .before .before) in let e = entry d in let p = (calm-asks (lent e) (e .args .s) (e .args .v) (sym (c .before .before .before .before .before .is-calm .ensures) ∙ c .before .before .before .before .if3 .taken) (listed e) (sized e) (passed-7 d)) in (p .0, p .1, p .2, p .3)
+play-calm-requires c κs = let d = looked (c .before .before .before .before .before .before .before .before) in let e = entry d in let p = (calm-asks (lent e) (e .args .s) (e .args .v) (calm (c .before .before .before .before)) (listed e) (sized e) (passed-7 d)) in (p .0, p .1, p .2, p .3)
 
-refused-requires-3 : tie.Need-refused-requires-3
-refused-requires-3 c κs = search needs
+refused-requires-5 : tie.Need-refused-requires-5
+refused-requires-5 c κs = search needs
 
 same-length-3 : tie.Need-same-length-3
 same-length-3 c = search needs
@@ -154,15 +189,15 @@ same-length-3 c = search needs
 same-length-4 : tie.Need-same-length-4
 same-length-4 c = search needs
 
-returns-3 : tie.Need-returns-3
-returns-3 c =
-    let d = still (c .before .before .before .before .before .before .before .before .before .before .before .before .before .before .before .before .before) in
+returns-5 : tie.Need-returns-5
+returns-5 c =
+    let d = looked (c .before .before .before .before .before .before .before .before .before .before .before .before .before .before .before .before .before .before .before) in
     let e = entry d in
     let m = c .before .before .before .before .before .before .before .before .before .before .play-calm in
     block-promise (lent e) (e .args .s) (e .args .v)
-    (calm-out (lent e) (e .args .s) (e .args .v) (sym (c .before .before .before .before .before .before .before .before .before .before .before .before .before .before .before .before .is-calm .ensures) ∙ c .before .before .before .before .before .before .before .before .before .before .before .before .before .before .before .if3 .taken) (listed e) (sized e) (passed-7 d) _ (ap (λ (z : Called). z .answer) (c .refused3 .ensures)) _ _
+    (calm-out (lent e) (e .args .s) (e .args .v) (calm (c .before .before .before .before .before .before .before .before .before .before .before .before .before .before .before)) (listed e) (sized e) (passed-7 d) _ (ap (λ (z : Called). z .answer) (c .refused5 .ensures)) _ _
     (left-by _ _ _ _ _ (e .args .s) (e .args .v) _ (c .before .before .before .before .before .before .before .before .before .before .before .before .before .before .tune-of .ensures) _ (m .ensures .0) _
-    (ap (λ (z : Called). record { session = z .session; voice = z .voice }) (c .refused3 .ensures) ∙ stays-as _ (e .args .s) (e .args .v) _ (m .ensures .2) (c .before .before .before .if4 .taken) _ (m .ensures .1) (c .before .if5 .taken)))
+    (ap (λ (z : Called). record { session = z .session; voice = z .voice }) (c .refused5 .ensures) ∙ stays-as _ (e .args .s) (e .args .v) _ (m .ensures .2) (c .before .before .before .if7 .taken) _ (m .ensures .1) (c .before .if8 .taken)))
     (same-length-3 c) (same-length-4 c))
 
 settle-requires : tie.Need-settle-requires
@@ -174,33 +209,15 @@ same-length-5 c = search needs
 same-length-6 : tie.Need-same-length-6
 same-length-6 c = search needs
 
-returns-4 : tie.Need-returns-4
-returns-4 c =
-    let d = still (c .before .before .before .before .before .before .before .before .before .before .before .before .before .before .before .before .before .before) in
+returns-6 : tie.Need-returns-6
+returns-6 c =
+    let d = looked (c .before .before .before .before .before .before .before .before .before .before .before .before .before .before .before .before .before .before .before .before) in
     let e = entry d in
     let m = c .before .before .before .before .before .before .before .before .before .before .before .play-calm in
     block-promise (lent e) (e .args .s) (e .args .v)
-    (calm-out (lent e) (e .args .s) (e .args .v) (sym (c .before .before .before .before .before .before .before .before .before .before .before .before .before .before .before .before .before .is-calm .ensures) ∙ c .before .before .before .before .before .before .before .before .before .before .before .before .before .before .before .before .if3 .taken) (listed e) (sized e) (passed-7 d) _ refl _ _
+    (calm-out (lent e) (e .args .s) (e .args .v) (calm (c .before .before .before .before .before .before .before .before .before .before .before .before .before .before .before .before)) (listed e) (sized e) (passed-7 d) _ refl _ _
     (left-by _ _ _ _ _ (e .args .s) (e .args .v) _ (c .before .before .before .before .before .before .before .before .before .before .before .before .before .before .before .tune-of .ensures) _ (m .ensures .0) _ (c .before .before .settle .ensures .0))
     (same-length-5 c) (same-length-6 c))
-
-state-fits-requires : tie.Need-state-fits-requires
-state-fits-requires c κs = search needs
-
-refused-requires-4 : tie.Need-refused-requires-4
-refused-requires-4 c κs = search needs
-
-returns-5 : tie.Need-returns-5
-returns-5 c = let d = still (calmed (c .before .before .before)) in let e = entry d in block-promise (lent e) (e .args .s) (e .args .v) (block-8 (lent e) (e .args .s) (e .args .v) (passed-7 d) _ (c .refused4 .ensures) (sym (c .before .before .state-fits .ensures) ∙ not-true _ (c .before .if6 .taken)))
-
-in-time-requires : tie.Need-in-time-requires
-in-time-requires c κs = search needs
-
-refused-requires-5 : tie.Need-refused-requires-5
-refused-requires-5 c κs = search needs
-
-returns-6 : tie.Need-returns-6
-returns-6 c = let f = c .before .before .before in let e = entry (first f) in block-promise (lent e) (e .args .s) (e .args .v) (block-9 (lent e) (e .args .s) (e .args .v) (passed-7 (first f)) (passed-8 f) _ (c .refused5 .ensures) (sym (c .before .before .in-time .ensures) ∙ not-true _ (c .before .if7 .taken)))
 
 sub-play-block : tie.Need-sub-play-block
 sub-play-block c = search needs
@@ -209,7 +226,7 @@ part-play-block-start : tie.Need-part-play-block-start
 part-play-block-start c = search needs
 
 part-play-block-end : tie.Need-part-play-block-end
-part-play-block-end c = let d = first (second c) in let e = entry d in in-left (lent e) (e .args .s) (e .args .v) (passed-7 d)
+part-play-block-end c = let d = looked (c .before .before .before .before) in let e = entry d in in-left (lent e) (e .args .s) (e .args .v) (passed-7 d)
 
 sub-play-block-2 : tie.Need-sub-play-block-2
 sub-play-block-2 c = search needs
@@ -218,10 +235,10 @@ part-play-block-start-2 : tie.Need-part-play-block-start-2
 part-play-block-start-2 c = search needs
 
 part-play-block-end-2 : tie.Need-part-play-block-end-2
-part-play-block-end-2 c = let d = first (second (c .before)) in let e = entry d in in-right (lent e) (e .args .s) (e .args .v) (passed-7 d)
+part-play-block-end-2 c = let d = looked (c .before .before .before .before .before) in let e = entry d in in-right (lent e) (e .args .s) (e .args .v) (passed-7 d)
 
 play-block-requires : tie.Need-play-block-requires
-play-block-requires c κs = let g = c .before .before in let f = second g in let e = entry (first f) in ready (lent e) (e .args .s) (e .args .v) (sized e) (passed-7 (first f)) (passed-8 f) (passed-9 g)
+play-block-requires c κs = let d = looked (c .before .before .before .before .before .before) in let e = entry d in let p = passed (c .before .before .before .before) in ready (lent e) (e .args .s) (e .args .v) (sized e) (passed-7 d) (p .0) (p .1)
 
 same-length-7 : tie.Need-same-length-7
 same-length-7 c = search needs
@@ -230,7 +247,7 @@ same-length-8 : tie.Need-same-length-8
 same-length-8 c = search needs
 
 returns-7 : tie.Need-returns-7
-returns-7 c = let g = c .before .before .before .before .before .before .before .before .before in let f = second g in let d = first f in let e = entry d in block-promise (lent e) (e .args .s) (e .args .v) (block-out (lent e) (e .args .s) (e .args .v) (passed-7 d) (passed-8 f) (passed-9 g) _ _ _ (c .before .before .before .before .before .before .play-block .ensures .0) (same-length-7 c) (same-length-8 c))
+returns-7 c = let d = looked (c .before .before .before .before .before .before .before .before .before .before .before .before .before) in let e = entry d in let p = passed (c .before .before .before .before .before .before .before .before .before .before .before) in block-promise (lent e) (e .args .s) (e .args .v) (block-out (lent e) (e .args .s) (e .args .v) (passed-7 d) (p .0) (p .1) _ _ _ (c .before .before .before .before .before .before .play-block .ensures .0) (same-length-7 c) (same-length-8 c))
 
 pub block-spec : {M : Type 1} → statement M
 block-spec =
@@ -252,6 +269,13 @@ block-spec =
     same-length
     same-length-2
     returns-2
+    look-requires
+    state-fits-requires
+    refused-requires-3
+    returns-3
+    in-time-requires
+    refused-requires-4
+    returns-4
     is-calm-requires
     tune-of-requires
     sub-play-calm
@@ -261,19 +285,13 @@ block-spec =
     part-play-calm-start-2
     part-play-calm-end-2
     play-calm-requires
-    refused-requires-3
+    refused-requires-5
     same-length-3
     same-length-4
-    returns-3
+    returns-5
     settle-requires
     same-length-5
     same-length-6
-    returns-4
-    state-fits-requires
-    refused-requires-4
-    returns-5
-    in-time-requires
-    refused-requires-5
     returns-6
     sub-play-block
     part-play-block-start
