@@ -53,7 +53,7 @@ upcoming c sc from = nextEvent (c .time) (sc .playing .offs) (sc .playing .voice
 abbrev turnedFrom : Cues → Scene → ℕ → Scene
 turnedFrom c sc i = foldl (frameTurn c) sc (indexes i (c .time .frames - i))
 
--- where the loop stands: the frames before the event at ev have been turned, and not yet sounded behind the last event
+-- where the loop stands: the frames before the event at ev have been turned, and none behind it has sounded
 pub record Reached (c : Cues) (first sc : Scene) (ev : ℕ) : Type 0 where
   pub ok : PlayingOk (c .words) (sc .playing)
   pub left : length (sc .left) ≡ c .time .frames
