@@ -20,7 +20,7 @@ use Rattle.session.specs.Rules.{countOf}
 use Rattle.session.specs.State.{view, liveIds}
 use Rattle.session.specs.Tests.{isLive, overLive, twiceLive, strayRecord, overRecords, overVoice, regionOutside}
 use Rattle.voice.specs.Tests.{sessionTests}
-use Rattle.voice.specs.Others.{placeIn, amiss, othersFit}
+use Rattle.voice.specs.Others.{placeIn, IsPlace, amiss, othersFit}
 use Rattle.session.specs.declared.PlayerRecord.{PlayerRecord}
 use Rattle.session.specs.declared.Session.{Session}
 use Rattle.session.proofs.Relist.{take-few}
@@ -304,3 +304,16 @@ one-walk id n k s r a b c o e =
     tail : (t : Bool) → overVoice s ≡ false → t ≡ every (t ∷ not (overVoice s) ∷ [])
     tail true f = sym (ap (λ u. not u && true) f)
     tail false f = refl
+
+-- ---- the place of an id, from the one before
+
+-- where it stands there, the first place of an id is one
+pub place-found : (xs : List ℕ) (id k : ℕ) → k ≡ placeIn id xs → IsPlace xs (length xs) k
+place-found xs id k at h =
+    let g : placeIn id xs < length xs = omega (arith, h, at) in
+    let there : getD xs (placeIn id xs) 0 ≡ id = eqb-true _ _ (first-holds (λ x. eqb x id) xs 0 g) in
+    at ∙ ap (λ (y : ℕ). placeIn y xs) (sym there ∙ ap (λ (j : ℕ). getD xs j 0) (sym at))
+
+-- a place at which the id stands
+pub place-again : (xs : List ℕ) (n id k : ℕ) → IsPlace xs n k → k < n → getD xs k 0 ≡ id → k ≡ placeIn id xs
+place-again xs n id k p h e = p h ∙ ap (λ (y : ℕ). placeIn y xs) e

@@ -1,8 +1,10 @@
 -- What a voice without players asks of the session's list. Definitions only.
-use Prim.Native.Nat.{ℕ}
+use Prim.Native.Nat.{ℕ, _<_}
+use mathlib.Core.Path.{_≡_}
 use mathlib.Core.Bool.{Bool, not, _&&_, _||_}
 use mathlib.Core.List.{List}
 use lib.Dec.{leb, eqb}
+use lib.ListN.{getD}
 use Rattle.session.specs.Lists.{any}
 use Rattle.session.specs.Offs.{firstAt}
 use Rattle.session.specs.Records.{ofVoice, waits}
@@ -14,6 +16,10 @@ use Rattle.session.specs.declared.Session.{Session}
 -- the first place of a number in a list; past it where there is none
 abbrev pub placeIn : ℕ → List ℕ → ℕ
 placeIn k xs = firstAt (λ x. eqb x k) xs
+
+-- k is the first place of the number that stands there; from n on nothing is said
+abbrev pub IsPlace : List ℕ → ℕ → ℕ → Type 0
+IsPlace xs n k = k < n → k ≡ placeIn (getD xs k 0) xs
 
 -- of a region outside n, or of the voice itself
 abbrev pub amiss : ℕ → ℕ → PlayerRecord → Bool

@@ -5,7 +5,7 @@ ghost use Prim.Native.Nat.{_≤_};
 ghost use lib.ListN.{length, take};
 ghost use Rattle.session.specs.Lists.{usedOf};
 ghost use Rattle.session.specs.State.{slotList};
-ghost use Rattle.voice.specs.Others.{placeIn, amiss, othersFit, listFits, offWaits};
+ghost use Rattle.voice.specs.Others.{placeIn, IsPlace, amiss, othersFit, listFits, offWaits};
 use session::PlayerRecord;
 use session::Session;
 use session::Slots;
@@ -33,6 +33,19 @@ fn place_of(ids: &[u64; 16], n: usize, id: u64) -> usize
     i
 }
 
+// The same, where `last` is such a place of some id, or none: a voice's records often stand together, and then need no search.
+fn place_after(ids: &[u64; 16], n: usize, last: usize, id: u64) -> usize
+    requires { ⌜ (n ≤ 16) × (length (now ids) ≡ 16) × IsPlace (take n (now ids)) n last ⌝ }
+    ensures { λ k. ⌜ (k ≡ placeIn id (take n (now (ids .entry)))) × IsPlace (take n (now (ids .entry))) n k ⌝ }
+{
+    if last < n {
+        if ids[last] == id {
+            return last;
+        }
+    }
+    place_of(ids, n, id)
+}
+
 // Whether the record's region is outside so many, or the record is the voice's own.
 fn is_amiss(r: PlayerRecord, regions: u32, voice: u64) -> bool
     ensures { λ b. ⌜ b ≡ amiss regions voice r ⌝ }
@@ -52,13 +65,15 @@ fn tally_fits(s: Session, regions: u32, voice: u64) -> bool
     let live = used(v.count, 16);
     let ids = v.ids;
     let mut counts = [0u32; 16];
+    let mut last = live;
     let mut i: usize = 0;
     while i < n {
         let r = s.players[i];
         if is_amiss(r, regions, voice) {
             return false;
         }
-        let p = place_of(&ids, live, r.voice);
+        let p = place_after(&ids, live, last, r.voice);
+        last = p;
         if live <= p {
             return false;
         }
@@ -111,6 +126,7 @@ pub fn list_look(s: Session, regions: u32, voice: u64, own: Slots) -> Look
     let ids = v.ids;
     let m = used(own.count, 32);
     let mut counts = [0u32; 16];
+    let mut last = live;
     let mut i: usize = 0;
     let mut j: usize = 0;
     let mut waits = false;
@@ -119,7 +135,8 @@ pub fn list_look(s: Session, regions: u32, voice: u64, own: Slots) -> Look
         if is_amiss(r, regions, 0) {
             return misfit();
         }
-        let p = place_of(&ids, live, r.voice);
+        let p = place_after(&ids, live, last, r.voice);
+        last = p;
         if live <= p {
             return misfit();
         }

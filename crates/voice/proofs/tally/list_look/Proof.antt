@@ -4,6 +4,7 @@ use mathlib.Core.Path.{_∙_, refl, sym}
 use native.Mathlib.Omega.{arith}
 use lib.ListN.{take}
 use lib.Seq.{length-take-le}
+use Rattle.voice.specs.Others.{IsPlace}
 use Rattle.session.proofs.Matching.{left-both, left-differs, left-done, left-none, left-other}
 use Rattle.session.proofs.Relist.{take-few}
 use Rattle.session.proofs.Walks.{long, used-below}
@@ -13,10 +14,10 @@ use Rattle.voice.proofs.tally.list_look.Statement.{statement}
 use Rattle.voice.proofs.tally.list_look.Tie as tie
 
 abbrev Inv-loop : tie.InvT-loop
-Inv-loop regions voice s own n live ids m counts₀ i₀ j₀ waits₀ counts i j waits = (n ≤ 512) × (live ≤ 16) × (m ≤ 32) × Looked regions voice (take live ids) n m (s .players) (own .slots) i j counts waits
+Inv-loop regions voice s own n live ids m counts₀ last₀ i₀ j₀ waits₀ counts last i j waits = (n ≤ 512) × (live ≤ 16) × (m ≤ 32) × Looked regions voice (take live ids) n m (s .players) (own .slots) i j counts waits × IsPlace (take live ids) live last
 
 abbrev μ-loop : tie.MeasureT-loop
-μ-loop regions voice s own n live ids m counts₀ i₀ j₀ waits₀ counts i j waits = n - i
+μ-loop regions voice s own n live ids m counts₀ last₀ i₀ j₀ waits₀ counts last i j waits = n - i
 
 used-requires : tie.Need-used-requires Inv-loop μ-loop
 used-requires c κs = tt
@@ -43,6 +44,7 @@ loop-holds c =
         left = record { all-records = omega arith; all-slots = omega arith; at-record = omega arith; at-slot = omega arith; same = refl };
         heard = refl;
       },
+      λ h. absurd (omega (arith, h)),
     )
 
 mul-r : tie.Need-mul-r Inv-loop μ-loop
@@ -69,8 +71,8 @@ returns c =
     (by-others (e .args .regions) (e .args .voice) (e .args .t4) (e .args .t1)
     (tally-amiss (e .args .regions) 0 (e .args .t1) _ _ u q _ refl _ _ (h .tallied) _ (c .before .before .before .before .loop-test .taken) _ (c .before .before .is-amiss .ensures) (c .before .if1 .taken)))
 
-place-of-requires : tie.Need-place-of-requires Inv-loop μ-loop
-place-of-requires c κs = let e = c .before .before .before .before .before .before .before .before .before .before .before in (c .before .before .before .before .before .loop .inv .1, (long _ (e .args .t1 .voices .ids) 16 (e .good .0 .1 .1 .1 .1 .1 .0 .1 .1 .0 .1 .0 .1)))
+place-after-requires : tie.Need-place-after-requires Inv-loop μ-loop
+place-after-requires c κs = let e = c .before .before .before .before .before .before .before .before .before .before .before in (c .before .before .before .before .before .loop .inv .1, (long _ (e .args .t1 .voices .ids) 16 (e .good .0 .1 .1 .1 .1 .1 .0 .1 .1 .0 .1 .0 .1)), c .before .before .before .before .before .loop .inv .4)
 
 misfit-requires-2 : tie.Need-misfit-requires-2 Inv-loop μ-loop
 misfit-requires-2 c κs = tt
@@ -85,7 +87,7 @@ returns-2 c =
     let t = c .before .before .before .before .before .before .before .before .before .used3 .ensures in
     misfits _ (c .misfit2 .ensures) _ _
     (by-others (e .args .regions) (e .args .voice) (e .args .t4) (e .args .t1)
-    (tally-stray (e .args .regions) 0 (e .args .t1) _ _ u q _ refl _ _ (h .tallied) _ (c .before .before .before .before .before .before .before .loop-test .taken) (sym (c .before .before .before .before .before .is-amiss .ensures) ∙ c .before .before .before .before .if1 .left) _ (c .before .before .place-of .ensures) (omega (arith, take-few (c .before .before .before .before .before .before .before .before .before .before .before .used2 .result) (e .args .t1 .voices .ids), c .before .if2 .taken))))
+    (tally-stray (e .args .regions) 0 (e .args .t1) _ _ u q _ refl _ _ (h .tallied) _ (c .before .before .before .before .before .before .before .loop-test .taken) (sym (c .before .before .before .before .before .is-amiss .ensures) ∙ c .before .before .before .before .if1 .left) _ (c .before .before .place-after .ensures .0) (omega (arith, take-few (c .before .before .before .before .before .before .before .before .before .before .before .used2 .result) (e .args .t1 .voices .ids), c .before .if2 .taken))))
 
 mul-held : tie.Need-mul-held Inv-loop μ-loop
 mul-held c = record { fits = omega (arith, c .before .before .before .before .before .before .before .loop .inv .1, c .if2 .left) }
@@ -106,7 +108,7 @@ returns-3 c =
     let t = c .before .before .before .before .before .before .before .before .before .before .used3 .ensures in
     misfits _ (c .misfit3 .ensures) _ _
     (by-others (e .args .regions) (e .args .voice) (e .args .t4) (e .args .t1)
-    (tally-over (e .args .regions) 0 (e .args .t1) _ _ u q _ refl _ _ (h .tallied) _ (c .before .before .before .before .before .before .before .before .loop-test .taken) (sym (c .before .before .before .before .before .before .is-amiss .ensures) ∙ c .before .before .before .before .before .if1 .left) _ (c .before .before .before .place-of .ensures) (rw (length-take-le (c .before .before .before .before .before .before .before .before .before .before .before .before .used2 .result) (e .args .t1 .voices .ids) (omega (arith, w .loop .inv .1, (long _ (e .args .t1 .voices .ids) 16 (e .good .0 .1 .1 .1 .1 .1 .0 .1 .1 .0 .1 .0 .1))))) (c .before .before .if2 .left)) (c .before .if3 .taken)))
+    (tally-over (e .args .regions) 0 (e .args .t1) _ _ u q _ refl _ _ (h .tallied) _ (c .before .before .before .before .before .before .before .before .loop-test .taken) (sym (c .before .before .before .before .before .before .is-amiss .ensures) ∙ c .before .before .before .before .before .if1 .left) _ (c .before .before .before .place-after .ensures .0) (rw (length-take-le (c .before .before .before .before .before .before .before .before .before .before .before .before .used2 .result) (e .args .t1 .voices .ids) (omega (arith, w .loop .inv .1, (long _ (e .args .t1 .voices .ids) 16 (e .good .0 .1 .1 .1 .1 .1 .0 .1 .1 .0 .1 .0 .1))))) (c .before .before .if2 .left)) (c .before .if3 .taken)))
 
 add-counts : tie.Need-add-counts Inv-loop μ-loop
 add-counts c = record { fits = omega (arith, c .if3 .left) }
@@ -173,12 +175,13 @@ loop-again c =
       w .loop .inv .1,
       w .loop .inv .2,
       record {
-        tallied = tally-next (e .args .regions) 0 (e .args .t1) _ _ u q _ refl _ _ (h .tallied) _ (c .before .before .before .before .before .before .before .before .before .before .before .before .before .before .before .loop-test .taken) (sym (c .before .before .before .before .before .before .before .before .before .before .before .before .before .is-amiss .ensures) ∙ c .before .before .before .before .before .before .before .before .before .before .before .before .if1 .left) _ (c .before .before .before .before .before .before .before .before .before .before .place-of .ensures) (rw (length-take-le (c .before .before .before .before .before .before .before .before .before .before .before .before .before .before .before .before .before .before .before .used2 .result) (e .args .t1 .voices .ids) (omega (arith, w .loop .inv .1, (long _ (e .args .t1 .voices .ids) 16 (e .good .0 .1 .1 .1 .1 .1 .0 .1 .1 .0 .1 .0 .1))))) (c .before .before .before .before .before .before .before .before .before .if2 .left)) (c .before .before .before .before .before .before .before .before .if3 .left) _ refl;
+        tallied = tally-next (e .args .regions) 0 (e .args .t1) _ _ u q _ refl _ _ (h .tallied) _ (c .before .before .before .before .before .before .before .before .before .before .before .before .before .before .before .loop-test .taken) (sym (c .before .before .before .before .before .before .before .before .before .before .before .before .before .is-amiss .ensures) ∙ c .before .before .before .before .before .before .before .before .before .before .before .before .if1 .left) _ (c .before .before .before .before .before .before .before .before .before .before .place-after .ensures .0) (rw (length-take-le (c .before .before .before .before .before .before .before .before .before .before .before .before .before .before .before .before .before .before .before .used2 .result) (e .args .t1 .voices .ids) (omega (arith, w .loop .inv .1, (long _ (e .args .t1 .voices .ids) 16 (e .good .0 .1 .1 .1 .1 .1 .0 .1 .1 .0 .1 .0 .1))))) (c .before .before .before .before .before .before .before .before .before .if2 .left)) (c .before .before .before .before .before .before .before .before .if3 .left) _ refl;
         left = left-both _ _ _ _ _ _ _ (h .left) _ (c .before .before .before .before .before .before .before .before .before .before .before .before .before .before .before .loop-test .taken) (c .before .before .before .before .if5 .taken) (c .before .before .before .if6 .left) (c .if7 .left);
         heard =
             let n = heard-next (e .args .voice) (e .args .t1 .players) _ _ (omega (arith, h .tallied .fits, c .before .before .before .before .before .before .before .before .before .before .before .before .before .before .before .loop-test .taken)) _ (h .heard) _ (c .before .before .before .before .before .before .before .is-waiting .ensures) in
             ⊎-elim (λ z. z .1 ∙ or-true (w .loop .waits) _ (z .0 .taken) ∙ n) (λ z. z .1 ∙ or-false (w .loop .waits) _ (z .0 .left) ∙ n) (c .before .before .before .before .before .before .if4 .came);
       },
+      c .before .before .before .before .before .before .before .before .before .before .place-after .ensures .1,
     )
 
 loop-less-2 : tie.Need-loop-less-2 Inv-loop μ-loop
@@ -196,12 +199,13 @@ loop-again-2 c =
       w .loop .inv .1,
       w .loop .inv .2,
       record {
-        tallied = tally-next (e .args .regions) 0 (e .args .t1) _ _ u q _ refl _ _ (h .tallied) _ (c .before .before .before .before .before .before .before .before .before .before .before .loop-test .taken) (sym (c .before .before .before .before .before .before .before .before .before .is-amiss .ensures) ∙ c .before .before .before .before .before .before .before .before .if1 .left) _ (c .before .before .before .before .before .before .place-of .ensures) (rw (length-take-le (c .before .before .before .before .before .before .before .before .before .before .before .before .before .before .before .used2 .result) (e .args .t1 .voices .ids) (omega (arith, w .loop .inv .1, (long _ (e .args .t1 .voices .ids) 16 (e .good .0 .1 .1 .1 .1 .1 .0 .1 .1 .0 .1 .0 .1))))) (c .before .before .before .before .before .if2 .left)) (c .before .before .before .before .if3 .left) _ refl;
+        tallied = tally-next (e .args .regions) 0 (e .args .t1) _ _ u q _ refl _ _ (h .tallied) _ (c .before .before .before .before .before .before .before .before .before .before .before .loop-test .taken) (sym (c .before .before .before .before .before .before .before .before .before .is-amiss .ensures) ∙ c .before .before .before .before .before .before .before .before .if1 .left) _ (c .before .before .before .before .before .before .place-after .ensures .0) (rw (length-take-le (c .before .before .before .before .before .before .before .before .before .before .before .before .before .before .before .used2 .result) (e .args .t1 .voices .ids) (omega (arith, w .loop .inv .1, (long _ (e .args .t1 .voices .ids) 16 (e .good .0 .1 .1 .1 .1 .1 .0 .1 .1 .0 .1 .0 .1))))) (c .before .before .before .before .before .if2 .left)) (c .before .before .before .before .if3 .left) _ refl;
         left = left-other _ _ _ _ _ _ _ (h .left) _ (c .before .before .before .before .before .before .before .before .before .before .before .loop-test .taken) (c .if5 .left);
         heard =
             let n = heard-next (e .args .voice) (e .args .t1 .players) _ _ (omega (arith, h .tallied .fits, c .before .before .before .before .before .before .before .before .before .before .before .loop-test .taken)) _ (h .heard) _ (c .before .before .before .is-waiting .ensures) in
             ⊎-elim (λ z. z .1 ∙ or-true (w .loop .waits) _ (z .0 .taken) ∙ n) (λ z. z .1 ∙ or-false (w .loop .waits) _ (z .0 .left) ∙ n) (c .before .before .if4 .came);
       },
+      c .before .before .before .before .before .before .place-after .ensures .1,
     )
 
 returns-6 : tie.Need-returns-6 Inv-loop μ-loop
@@ -231,7 +235,7 @@ list-look-spec =
     is-amiss-requires
     misfit-requires
     returns
-    place-of-requires
+    place-after-requires
     misfit-requires-2
     returns-2
     mul-held
