@@ -7,7 +7,6 @@ ghost use Rattle.player.specs.Segment.{playedBy};
 ghost use Rattle.session.specs.Lists.{any};
 ghost use Rattle.players.specs.Mix.{partsOf, lentTo, noted, tunedOne, tunedAll, playedAll};
 ghost use Rattle.players.specs.Seats.{sounding, isOver, PlayersOk};
-use super::Mixed;
 use super::Players;
 use super::is_over;
 use super::with_cold;
@@ -176,27 +175,4 @@ pub fn sound_all(
         ended,
         over,
     }
-}
-
-// A segment of every player as it is tuned. It goes through `sound_all`, so that `play` has one caller and is inlined there.
-pub fn play_all(
-    ps: Players,
-    samples: &[u32],
-    frames: &[f32],
-    table: &[f32],
-    left: &mut [f32],
-    right: &mut [f32],
-) -> Mixed
-    requires { ⌜ PlayersOk ps × (length (now table) ≡ 8194) × (length (now right) ≡ length (now left)) ⌝ }
-    ensures { λ r. ⌜ ((record { mixed = r; left = now (left .exit); right = now (right .exit) }) ≡ playedAll (record { samples = now (samples .entry); frames = now (frames .entry); table = now (table .entry) }) ps (now (left .entry)) (now (right .entry))) × PlayersOk (r .players) ⌝ }
-{
-    let x = Tune {
-        on: false,
-        note_f: 0.0,
-        bend: 0.0,
-    };
-    let m = sound_all(ps, x, samples, frames, table, left, right);
-    let players = m.players;
-    let ended = m.ended;
-    Mixed { players, ended }
 }
