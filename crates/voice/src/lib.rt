@@ -46,10 +46,10 @@ pub enum Answer {
     TooLate,
 }
 
+// The large parts in front, the voice first: so ordered they are copied least, and to aligned places (docs/SPEED.md).
 pub struct Called {
-    pub session: Session,
     pub voice: SampleVoice,
-    // behind the large parts, which are then copied to aligned places
+    pub session: Session,
     pub answer: Answer,
 }
 
