@@ -109,9 +109,8 @@ pub fn play_frames(
     let mut from = p.from;
     while from < n {
         if from < ev {
-            let ps = voice.players;
             let m = sound_all(
-                ps,
+                voice.players,
                 x,
                 samples,
                 pcm,

@@ -34,9 +34,10 @@ pub struct Tune {
 
 // After a segment: the slots of the players whose data ended in it, and whether some player's envelope is done.
 pub struct Sounded {
-    pub players: Players,
-    pub ended: Slots,
     pub over: bool,
+    pub ended: Slots,
+    // behind the small parts: what a walk hands back is then copied once
+    pub players: Players,
 }
 
 // A place among the frames that are there.

@@ -72,8 +72,8 @@ part-sound-all-end-2 c = search needs
 
 sound-all-requires : tie.Need-sound-all-requires Inv-loop μ-loop
 sound-all-requires c κs =
-    let l = c .before .before .before .before .before .loop in
-    (l .inv .ok .voice .players, c .before .before .before .before .before .before .before .before .before .before .before .before .before .before .before .before .before .before .before .before .before .before .before .pre .2 .table, part-length (l .from) (l .ev) (l .left) (l .right) (l .inv .right ∙ sym (l .inv .left)))
+    let l = c .before .before .before .before .loop in
+    (l .inv .ok .voice .players, c .before .before .before .before .before .before .before .before .before .before .before .before .before .before .before .before .before .before .before .before .before .before .pre .2 .table, part-length (l .from) (l .ev) (l .left) (l .right) (l .inv .right ∙ sym (l .inv .left)))
 
 unsettled-requires : tie.Need-unsettled-requires Inv-loop μ-loop
 unsettled-requires c κs = search needs
@@ -92,11 +92,11 @@ heard c =
     let u = cuesAt (start i) in
     let x = i .before .before .before .before .before .before .untuned in
     ⊎-elim
-    (λ w. heard-as (same-stage (w .16) (w .17) (same-under (w .18) (w .19) refl (w .20)))
-    (heard-settled u (scene i) (l .ev) (l .inv .ok) (l .inv .left) (l .inv .right) (x .result) (x .ensures) (w .0 .taken) _ (w .4 .ensures .0) (w .4 .kept .1 .1 .1 .1 .1 .0) (w .4 .kept .1 .1 .1 .1 .1 .1 .0) (w .13 .result) (w .13 .ensures .0) (w .13 .ensures .1)))
+    (λ w. heard-as (same-stage (w .15) (w .16) (same-under (w .17) (w .18) refl (w .19)))
+    (heard-settled u (scene i) (l .ev) (l .inv .ok) (l .inv .left) (l .inv .right) (x .result) (x .ensures) (w .0 .taken) _ (w .3 .ensures .0) (w .3 .kept .1 .1 .1 .1 .1 .0) (w .3 .kept .1 .1 .1 .1 .1 .1 .0) (w .12 .result) (w .12 .ensures .0) (w .12 .ensures .1)))
     (⊎-elim
-    (λ w. heard-as (same-stage (w .13) (w .14) (same-under (w .15) (w .16) refl (w .17)))
-    (heard-calm u (scene i) (l .ev) (l .inv .ok) (l .inv .left) (l .inv .right) (x .result) (x .ensures) (w .0 .taken) _ (w .4 .ensures .0) (w .4 .kept .1 .1 .1 .1 .1 .0) (w .4 .kept .1 .1 .1 .1 .1 .1 .0) (w .4 .result .over) (w .11 .result) (w .4 .ensures .1) (w .11 .ensures) (w .12 .left) (w .4 .ensures .2)))
+    (λ w. heard-as (same-stage (w .12) (w .13) (same-under (w .14) (w .15) refl (w .16)))
+    (heard-calm u (scene i) (l .ev) (l .inv .ok) (l .inv .left) (l .inv .right) (x .result) (x .ensures) (w .0 .taken) _ (w .3 .ensures .0) (w .3 .kept .1 .1 .1 .1 .1 .0) (w .3 .kept .1 .1 .1 .1 .1 .1 .0) (w .3 .result .over) (w .10 .result) (w .3 .ensures .1) (w .10 .ensures) (w .11 .left) (w .3 .ensures .2)))
     (λ w. heard-as (same-stage (w .1) (w .2) (same-under (w .3) (w .4) refl (w .5))) (heard-none u (scene i) (l .ev) (l .inv .ok) (l .inv .left) (l .inv .right) (l .inv .behind) (w .0 .left))))
     (c .if1 .came)
 
