@@ -545,8 +545,12 @@ pub fn sinc_four(
     let start = Lanes { acc: z, wsum: z };
     let last = 2 * (span.half as usize) - 1;
     let mut s = end_row(start, table, frames, entries, parts, n, 0);
-    for k in 1..last {
-        s = row(s, table, frames, entries, parts, n, k);
+    let h = span.half as usize;
+    // Two taps a turn halve the loop's own work.
+    for j in 1..h {
+        let k = 2 * j;
+        let q = row(s, table, frames, entries, parts, n, k - 1);
+        s = row(q, table, frames, entries, parts, n, k);
     }
     let t = end_row(s, table, frames, entries, parts, n, last);
     let acc = t.acc;
@@ -582,8 +586,11 @@ pub fn sinc_four_pair(
     };
     let last = 2 * (span.half as usize) - 1;
     let mut s = end_row_pair(start, table, a, b, entries, parts, n, 0);
-    for k in 1..last {
-        s = row_pair(s, table, a, b, entries, parts, n, k);
+    let h = span.half as usize;
+    for j in 1..h {
+        let k = 2 * j;
+        let q = row_pair(s, table, a, b, entries, parts, n, k - 1);
+        s = row_pair(q, table, a, b, entries, parts, n, k);
     }
     let t = end_row_pair(s, table, a, b, entries, parts, n, last);
     let l = t.a;
