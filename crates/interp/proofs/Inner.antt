@@ -16,7 +16,7 @@ use lib.Ieee.Scale.{round-same}
 use lib.Ieee.{Float, nan, inf, fin, binary32, up, down, round, add, sub, neg, sum, mul, unlike, lt, le, eq, isNan, ofInt, ofBits}
 use Rattle.exact.proofs.Negation.{neg-round}
 use Rattle.exact.specs.Value.{plus}
-use Rattle.exact.specs.Single.{_⊕_, _⊖_, _⊗_, single, f0, f1, f16, f8193}
+use Rattle.exact.specs.Single.{_⊕_, _⊖_, _⊗_, single, f1, f16, f8193}
 use Rattle.exact.specs.Order.{magnitude}
 use Rattle.interp.specs.Sinc.{crossingsOf}
 use Rattle.interp.specs.Places.{placeOf, entryOf}
@@ -25,7 +25,7 @@ use Rattle.interp.specs.declared.sinc.SincSpan.{SincSpan}
 use Rattle.interp.proofs.Difference.{differ}
 use Rattle.interp.proofs.Looping.{le-values}
 use Rattle.interp.proofs.Range.{at-most}
-use Rattle.interp.proofs.Table.{signless, round-signless, bounded, in-table, magnitude-plus}
+use Rattle.interp.proofs.Table.{signless, round-signless, bounded, in-table, magnitude-plus, true-of}
 
 single-value : (n : ℕ) → n ≤ 2 ^ 24 → HasValue (single n) false n 1
 unfolding ofInt
@@ -67,22 +67,52 @@ less-whole a b h l =
     let e : a - b * 1 ≡ a - b = omega arith in
     differ binary32 (single a) (single b) a 1 b (omega arith) (single-value a (omega arith)) (single-value b (omega arith)) (omega arith) ∙ ap (λ (k : ℕ). round binary32 false k 1) e
 
--- a count in floats
-plus-one : (x : Float) (k : ℕ) → HasValue x false k 1 → x ⊕ f1 ≡ single (k + 1)
-unfolding add sum ofInt ofBits
-plus-one nan k v = absurd v
-plus-one (inf s) k v = absurd v
-plus-one (fin true m e) k v = absurd (true≢false (v .0))
-plus-one (fin false m e) k v =
-    let a : m * up e * 1 ≡ k * down e = v .1 in
-    round-same binary32 false (m * up e * 1 + 1 * 1 * down e) (down e * 1) (k + 1) 1 (omega (arith, down-pos e)) (omega arith) (omega arith)
+-- a count down in floats
+lower : (x : Float) (j : ℕ) → HasValue x true j 1 → x ⊖ f1 ≡ round binary32 true (j + 1) 1
+unfolding sub neg add sum ofBits
+lower nan j v = absurd v
+lower (inf s) j v = absurd v
+lower (fin false m e) j v = absurd (true≢false (sym (v .0)))
+lower (fin true m e) j v =
+    let a : m * up e * 1 ≡ j * down e = v .1 in
+    round-same binary32 true (m * up e * 1 + 1 * 1 * down e) (down e * 1) (j + 1) 1 (omega (arith, down-pos e)) (omega arith) (omega arith)
 
-pub none : f0 ≡ single 0
+minus-value : (j : ℕ) → j ≤ 80 → HasValue (round binary32 true j 1) true j 1
+minus-value j h = round-whole binary32 true j (omega arith)
+
+one : f1 ≡ single 1
 unfolding ofInt ofBits
-none = refl
+one = refl
 
-pub next : (k : ℕ) → k ≤ 80 → single k ⊕ f1 ≡ single (k + 1)
-next k h = plus-one (single k) k (single-value k (omega arith))
+less-next : (a k : ℕ) → a ≤ 40 → k ≤ 80 → single a ⊖ single k ⊖ f1 ≡ single a ⊖ single (k + 1)
+less-next a k h l = go (leb (k + 1) a) (leb→le (k + 1) a) (nleb→lt (k + 1) a)
+  where
+    below-it : a < k + 1 → single a ⊖ single (k + 1) ≡ round binary32 true (k + 1 - a) 1
+    below-it y = minus (single a) (single (k + 1)) a (k + 1) (single-value a (omega arith)) (single-value (k + 1) (omega arith)) y
+
+    under : (t : Bool) → (T t → k ≤ a) → (T (not t) → a < k) → a < k + 1 → single a ⊖ single k ⊖ f1 ≡ round binary32 true (k + 1 - a) 1
+    under true x z y =
+        let o : a - k ≡ 0 = omega arith in
+        let i : k + 1 - a ≡ 1 - 0 = omega (arith, x tt) in
+        rw (less-whole a k (omega arith) (x tt), o, one) (minus (single 0) (single 1) 0 1 (single-value 0 (omega arith)) (single-value 1 (omega arith)) (omega arith) ∙ ap (λ (j : ℕ). round binary32 true j 1) (sym i))
+    under false x z y =
+        let i : k - a + 1 ≡ k + 1 - a = omega (arith, z tt) in
+        rw (minus (single a) (single k) a k (single-value a (omega arith)) (single-value k (omega arith)) (z tt)) (lower (round binary32 true (k - a) 1) (k - a) (minus-value (k - a) (omega arith)) ∙ ap (λ (j : ℕ). round binary32 true j 1) i)
+
+    go : (t : Bool) → (T t → k + 1 ≤ a) → (T (not t) → a < k + 1) → single a ⊖ single k ⊖ f1 ≡ single a ⊖ single (k + 1)
+    go true x y =
+        let m = x tt in
+        let i : a - k - 1 ≡ a - (k + 1) = omega arith in
+        rw (less-whole a k (omega arith) (omega arith), less-whole a (k + 1) (omega arith) m) (less-one (a - k) (omega arith) (omega arith) ∙ ap single i)
+    go false x y = under (leb k a) (leb→le k a) (nleb→lt k a) (y tt) ∙ sym (below-it (y tt))
+
+pub away-first : (half : ℕ) → 1 ≤ half → half ≤ 40 → single half ⊖ f1 ≡ single half ⊖ f1 ⊖ single 0
+away-first half a b =
+    let i : half - 1 ≡ half - 1 - 0 = omega arith in
+    rw (less-one half a b) (ap single i ∙ sym (less-whole (half - 1) 0 (omega arith) (omega arith)))
+
+pub away-next : (half k : ℕ) (d : Float) → 1 ≤ half → half ≤ 40 → k ≤ 80 → d ≡ single half ⊖ f1 ⊖ single k → d ⊖ f1 ≡ single half ⊖ f1 ⊖ single (k + 1)
+away-next half k d a b c e = rw (e, less-one half a b) (less-next (half - 1) k (omega arith) c)
 
 -- ---- a sum, as it is rounded: its size is at most B
 pub record Rounded (B : ℕ) (x : Float) : Type 0 where
@@ -141,9 +171,6 @@ module _ (m : ℕ) (e : ℤ) (h : m * up e ≤ down e) (j B : ℕ) where
 part-most : (m : ℕ) (e : ℤ) → T (le (fin false m e) f1) → m * up e ≤ down e
 unfolding le lt eq ofBits
 part-most m e t = let b : m * up e * 1 ≤ 1 * 1 * down e = at-most (m * up e * 1) (1 * 1 * down e) _ t in omega arith
-
-minus-value : (j : ℕ) → j ≤ 80 → HasValue (round binary32 true j 1) true j 1
-minus-value j h = round-whole binary32 true j (omega arith)
 
 -- f and half - 1 - k frames, where the next whole number is at most B
 distance : (f : Float) (half k B : ℕ) → Part f → 1 ≤ half → half ≤ 40 → k ≤ 80 → 1 ≤ B → half ≤ B + k → k + 1 ≤ B + half
@@ -326,7 +353,3 @@ module _ (span : SincSpan) (f : Float) (k : ℕ) (i : Inside span) (p : Part f) 
   entry-low a b =
       let t = inside a b in
       rw (true-of (lt (magnitude (crossingsOf span f k)) f16) t) (in-table (magnitude (crossingsOf span f k)) (magnitude-plus (crossingsOf span f k) t) t .small)
-    where
-      true-of : (b : Bool) → T b → b ≡ true
-      true-of true t = refl
-      true-of false t = absurd t

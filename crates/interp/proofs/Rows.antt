@@ -4,13 +4,14 @@ use mathlib.Core.Logic.{_≢_, inl, inr}
 use mathlib.Core.Bool.{Bool, true, false, not, cond}
 use mathlib.Core.List.{List}
 use Prim.Native.Nat.{ℕ, _+_, _-_, _*_, _≤_, _<_, min}
-use native.Mathlib.Nat.{eq-or-lt-of-le, le-antisymm, lt-irrefl}
+use native.Mathlib.Nat.{eq-or-lt-of-le, lt-irrefl}
 use native.Mathlib.Omega.{arith}
 use lib.Dec.{T, leb, leb→le}
 use lib.ListN.{getD, set, length, length-set}
 use lib.Seq.{getD-set-same, getD-set-other}
-use lib.Ieee.{Float, nan, isNan, toUnsigned}
-use Rattle.exact.specs.Single.{_⊕_, _⊖_, _⊗_, single, f0, f1}
+use lib.Ieee.{Float, nan, lt, isNan, toUnsigned}
+use Rattle.exact.specs.Single.{_⊕_, _⊖_, _⊗_, single, f0, f1, f16}
+use Rattle.exact.specs.Order.{magnitude}
 use Rattle.interp.specs.Points.{frameAt}
 use Rattle.interp.specs.Sinc.{crossingsOf, taps, meanOf, sincAt}
 use Rattle.interp.specs.Places.{placeOf, entryOf, partOf, tappedBy}
@@ -21,8 +22,7 @@ use Rattle.interp.specs.declared.four.Four.{Four}
 use Rattle.interp.specs.declared.four.Starts.{Starts}
 use Rattle.interp.specs.declared.four.Lanes.{Lanes}
 use Rattle.interp.proofs.Frames as frames
-use Rattle.interp.proofs.Inner.{next, no-nan, entry-low}
-use Rattle.interp.proofs.Table.{split, place-within}
+use Rattle.interp.proofs.Inner.{inside, no-nan, entry-low}
 use Rattle.interp.proofs.Taps.{more-by}
 
 -- ---- four places stored
@@ -63,22 +63,26 @@ module _ {A : Type 0} (l : List A) (m : ℕ) (a b c d z : A) where
     at3 = getD-set-same (set (set (set l m a) (m + 1) b) (m + 2) c) (m + 3) d z (simp length-set h)
 
 -- what one tap's place is
-pub record Is (span : SincSpan) (f : Float) (k i : ℕ) (g : Float) : Type 0 where
-  pub entry : i ≡ entryOf (crossingsOf span f k)
-  pub part : g ≡ partOf (crossingsOf span f k)
+record Is (span : SincSpan) (f : Float) (k i : ℕ) (g : Float) : Type 0 where
+  entry : i ≡ entryOf (crossingsOf span f k)
+  part : g ≡ partOf (crossingsOf span f k)
 
--- by the distance d of tap k: y is its place, and w the whole part of y
+-- by the distance d of tap k
 module _ (span : SincSpan) (f : Float) (k : ℕ) (d : Float) (e : d ≡ single (span .half) ⊖ f1 ⊖ single k) where
   pub tap-number : Inside span → Part f → k < 2 * span .half → T (not (isNan ((f ⊕ d) ⊗ span .fc)))
   unfolding crossingsOf
   tap-number i p h = rw e (no-nan span f k i p h)
 
-  module _ (y w : Float) (q : y ≡ placeOf ((f ⊕ d) ⊗ span .fc)) (r : w ≡ single (toUnsigned 64 y)) where
-    pub tap-is : Is span f k (toUnsigned 16 w) (y ⊖ w)
-    unfolding crossingsOf
-    tap-is =
-        let t = split ((f ⊕ d) ⊗ span .fc) y w q r in
-        record { entry = t .1 ∙ ap (λ (z : Float). entryOf ((f ⊕ z) ⊗ span .fc)) e; part = t .2 ∙ ap (λ (z : Float). partOf ((f ⊕ z) ⊗ span .fc)) e }
+  pub tap-inside : Inside span → Part f → 0 < k → k + 1 < 2 * span .half → T (lt (magnitude ((f ⊕ d) ⊗ span .fc)) f16)
+  unfolding crossingsOf
+  tap-inside i p a b = rw e (inside span f k i p a b)
+
+  -- y is its place
+  tap-is : (y : Float) → y ≡ placeOf ((f ⊕ d) ⊗ span .fc) → Is span f k (toUnsigned 64 y) (y ⊖ single (toUnsigned 64 y))
+  unfolding crossingsOf
+  tap-is y q =
+      let r : y ≡ placeOf (crossingsOf span f k) = q ∙ ap (λ (z : Float). placeOf ((f ⊕ z) ⊗ span .fc)) e in
+      record { entry = ap (toUnsigned 64) r; part = ap (λ (z : Float). z ⊖ single (toUnsigned 64 z)) r }
 
 module _ (span : SincSpan) (f : Four) (es : List ℕ) (ps : List Float) (k i0 i1 i2 i3 : ℕ) (g0 g1 g2 g3 : Float) where
   abbrev es' : List ℕ
@@ -99,7 +103,7 @@ module _ (span : SincSpan) (f : Four) (es : List ℕ) (ps : List Float) (k i0 i1
         s3 = kept (f .x3) t (4 * t + 3) (omega arith) (r .s3);
       }
 
-  pub rows-more : length es ≡ 320 → length ps ≡ 320 → k < 80 → Is span (f .x0) k i0 g0 → Is span (f .x1) k i1 g1 → Is span (f .x2) k i2 g2 → Is span (f .x3) k i3 g3 → Rows span f es ps k
+  rows-more : length es ≡ 320 → length ps ≡ 320 → k < 80 → Is span (f .x0) k i0 g0 → Is span (f .x1) k i1 g1 → Is span (f .x2) k i2 g2 → Is span (f .x3) k i3 g3 → Rows span f es ps k
       → Rows span f es' ps' (k + 1)
   rows-more a b h q0 q1 q2 q3 r t l = elim (eq-or-lt-of-le {n = t} {m = k} (omega arith)) [ inl e ↦ subst (AtRow span f es' ps') (sym e) newest | inr s ↦ older t s (r t s) ]
     where
@@ -118,18 +122,24 @@ module _ (span : SincSpan) (f : Four) (es : List ℕ) (ps : List Float) (k i0 i1
             s3 = record { entry = at3 es (4 * k) i0 i1 i2 i3 0 room ∙ q3 .entry; part = at3 ps (4 * k) g0 g1 g2 g3 nan room' ∙ q3 .part };
           }
 
-pub rows-all : (span : SincSpan) (f : Four) (es : List ℕ) (ps : List Float) (k : ℕ) → k ≤ 2 * span .half → 2 * span .half ≤ k → Rows span f es ps k → Rows span f es ps (2 * span .half)
-rows-all span f es ps k a b r = subst (λ (j : ℕ). Rows span f es ps j) (le-antisymm a b) r
+-- the four places y of tap k stored
+module _ (span : SincSpan) (f : Four) (k : ℕ) (d : Float) (e : d ≡ single (span .half) ⊖ f1 ⊖ single k) (y0 y1 y2 y3 : Float) (q0 : y0 ≡ placeOf ((f .x0 ⊕ d) ⊗ span .fc)) (q1 : y1 ≡ placeOf ((f .x1 ⊕ d) ⊗ span .fc)) (q2 : y2 ≡ placeOf ((f .x2 ⊕ d) ⊗ span .fc)) (q3 : y3 ≡ placeOf ((f .x3 ⊕ d) ⊗ span .fc)) where
+  pub rows-put : (es es' : List ℕ) (ps ps' : List Float) → length es ≡ 320 → length ps ≡ 320 → k < 80 → Rows span f es ps k
+      → es' ≡ put4 es (4 * k) (toUnsigned 64 y0) (toUnsigned 64 y1) (toUnsigned 64 y2) (toUnsigned 64 y3)
+      → ps' ≡ put4 ps (4 * k) (y0 ⊖ single (toUnsigned 64 y0)) (y1 ⊖ single (toUnsigned 64 y1)) (y2 ⊖ single (toUnsigned 64 y2)) (y3 ⊖ single (toUnsigned 64 y3))
+      → Rows span f es' ps' (k + 1) × (length es' ≡ 320) × (length ps' ≡ 320)
+  rows-put es es' ps ps' a b h r u v =
+      rw (u, v) (
+        rows-more span f es ps k _ _ _ _ _ _ _ _ a b h (tap-is span (f .x0) k d e y0 q0) (tap-is span (f .x1) k d e y1 q1) (tap-is span (f .x2) k d e y2 q2) (tap-is span (f .x3) k d e y3 q3) r,
+        simp length-set a,
+        simp length-set b,
+      )
 
--- the tap as a float, and its distance
-pub away : (half : ℕ) (z : Float) (k : ℕ) → z ≡ single k → single half ⊖ f1 ⊖ z ≡ single half ⊖ f1 ⊖ single k
-away half z k e = ap (λ (y : Float). single half ⊖ f1 ⊖ y) e
+pub rows-at : (span : SincSpan) (f : Four) (es : List ℕ) (ps : List Float) (j k : ℕ) → j ≡ k → Rows span f es ps j → Rows span f es ps k
+rows-at span f es ps j k e r = subst (λ (i : ℕ). Rows span f es ps i) e r
 
-pub one-more : (z : Float) (k : ℕ) → z ≡ single k → k ≤ 80 → z ⊕ f1 ≡ single (k + 1)
-one-more z k e h = ap (λ (y : Float). y ⊕ f1) e ∙ next k h
-
-pub small : (v y w : Float) → y ≡ placeOf v → w ≡ single (toUnsigned 64 y) → toUnsigned 16 w ≤ 8193
-small v y w q r = rw (split v y w q r .1) (place-within v .2)
+pub away-at : (half : ℕ) (d : Float) (j k : ℕ) → j ≡ k → d ≡ single half ⊖ f1 ⊖ single j → d ≡ single half ⊖ f1 ⊖ single k
+away-at half d j k e q = q ∙ ap (λ (i : ℕ). single half ⊖ f1 ⊖ single i) e
 
 pub rows-none : (span : SincSpan) (f : Four) (es : List ℕ) (ps : List Float) → Rows span f es ps 0
 rows-none span f es ps t h = absurd (none t h)

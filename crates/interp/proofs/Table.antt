@@ -15,7 +15,7 @@ use lib.IntN.{ℤ}
 use lib.Ieee.Back.{unsigned-back}
 use lib.Ieee.Fits.{down-pos}
 use lib.Ieee.Order.{round-mono}
-use lib.Ieee.{Float, nan, inf, fin, Format, binary32, prec, emax, low, up, down, lt, le, eq, mul, round, units, odd, ofBits, toUnsigned, inUnsigned, inFloat}
+use lib.Ieee.{Float, nan, inf, fin, Format, binary32, prec, emax, low, up, down, lt, le, eq, mul, round, units, odd, isNan, ofBits, toUnsigned, inUnsigned, inFloat}
 use Rattle.exact.specs.Value.{plus}
 use Rattle.exact.specs.Single.{_⊗_, _⊖_, single, f16, f512, f8193}
 use Rattle.exact.specs.Order.{magnitude}
@@ -91,6 +91,10 @@ scaled (fin false m e) p t =
 yes : {b : Bool} → b ≡ true → T b
 yes e = subst T (sym e) tt
 
+pub true-of : (b : Bool) → T b → b ≡ true
+true-of true t = refl
+true-of false t = absurd t
+
 last-plus : T (plus f8193)
 unfolding ofBits
 last-plus = tt
@@ -112,7 +116,18 @@ place-at true v e =
     rw e (s .0, s .1, omega (arith, in-table (magnitude v) p t .small))
 place-at false v e = rw e (last-plus, last-le, omega (arith, last-entry))
 
-pub place-within : (v : Float) → T (plus (placeOf v)) × T (le (placeOf v) f8193) × (entryOf v ≤ 8193)
+-- in the window, where no test is needed
+pub place-inside : (v u : Float) → T (lt (magnitude v) f16) → u ≡ magnitude v → u ⊗ f512 ≡ placeOf v
+unfolding placeOf
+place-inside v u t e = rw (e, true-of (lt (magnitude v) f16) t)
+
+pub inside-number : (v : Float) → T (lt (magnitude v) f16) → T (not (isNan v))
+unfolding magnitude lt isNan ofBits
+inside-number nan t = absurd t
+inside-number (inf s) t = tt
+inside-number (fin s m e) t = tt
+
+place-within : (v : Float) → T (plus (placeOf v)) × T (le (placeOf v) f8193) × (entryOf v ≤ 8193)
 place-within v = place-at (lt (magnitude v) f16) v refl
 
 -- its entry, by the whole part as a float

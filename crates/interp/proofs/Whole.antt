@@ -6,15 +6,19 @@ use Prim.Native.Nat.{ℕ, zero, suc, _+_, _-_, _*_, _/_, _%_, _^_, _≤_, _<_, m
 use native.Mathlib.Nat.{le-antisymm, mul-one, mul-comm, mul-right-comm, lt-of-mul-lt-mul-right, le-of-mul-le-mul-right, mul-le-mul-right, div-mul-le-self, div-lt-iff-lt-mul, le-trans, lt-of-le-of-lt}
 use native.Mathlib.Numerals.{add-one}
 use native.Mathlib.Omega.{arith}
-use lib.Dec.{T, ltb, leb, eqb, ltb→lt, nltb→le, lt→ltb}
-use lib.IntN.{ℤ, pos, negsuc}
+use lib.Dec.{T, ltb, leb, eqb, ltb→lt, nltb→le, lt→ltb, le→leb}
+use lib.IntN.{ℤ, pos, negsuc, natAbs}
 use lib.Pow.{pow-mono}
-use lib.Ieee.Back.{round-whole}
+use lib.Signed.{nonNeg}
+use lib.Ieee.Back.{round-whole, positive-back}
 use lib.Ieee.Exact.{HasValue}
 use lib.Ieee.Fits.{down-pos, round-fits, and-l, and-r}
 use lib.Ieee.Order.{round-mono}
 use lib.Ieee.Positive.{num, den, positive, between, own-value, values-of-le, positive-of-value}
-use lib.Ieee.{Float, nan, inf, fin, binary32, low, up, down, round, add, sub, sum, lt, le, eq, ofInt, ofBits, toUnsigned, fits}
+use lib.Ieee.{Float, nan, inf, fin, binary32, low, up, down, round, add, sub, sum, lt, le, eq, ofInt, ofBits, toUnsigned, toSigned, inSigned, inFloat, fits}
+use mir.Syntax.{w32}
+use mir.Val.{Fits, toZ, ofZ}
+use mir.ValLaws.{toZ-pos}
 use Rattle.exact.specs.Single.{_⊕_, _⊖_, single, f0, f1, f8193}
 use Rattle.exact.specs.Value.{plus}
 use Rattle.interp.proofs.Difference.{differ}
@@ -200,18 +204,36 @@ less-none n h =
     let e : n - 0 * 1 ≡ n = omega arith in
     differ binary32 (single n) f0 n 1 0 (omega arith) (single-value n h) (refl, refl) (omega arith) ∙ ap (λ (k : ℕ). round binary32 false k 1) e
 
+unsigned-most : (x : Float) → T (plus x) → T (le x (f8193)) → toUnsigned 64 x ≤ 8193
+unsigned-most nan p t = absurd p
+unsigned-most (inf s) p t = absurd p
+unsigned-most (fin true m e) p t = absurd p
+unsigned-most (fin false m e) p t = subst (λ (k : ℕ). k ≤ 8193) (cut m e (most m e t)) (w-small m e (most m e t))
+
 cut-off : (x : Float) → T (plus x) → T (le x (f8193)) → (b : Bool) → lt x (x ⊕ unitAbove ⊖ unitAbove) ≡ b
     → x ⊕ unitAbove ⊖ unitAbove ⊖ cond b f1 f0 ≡ single (toUnsigned 64 x)
 cut-off x p t true l = stepped x p t l
 cut-off x p t false l =
     let e = stayed x p t l in
     ap (λ (y : Float). y ⊖ f0) e ∙ less-none (toUnsigned 64 x) (le-trans (unsigned-most x p t) (omega arith))
-  where
-    unsigned-most : (x : Float) → T (plus x) → T (le x (f8193)) → toUnsigned 64 x ≤ 8193
-    unsigned-most nan p t = absurd p
-    unsigned-most (inf s) p t = absurd p
-    unsigned-most (fin true m e) p t = absurd p
-    unsigned-most (fin false m e) p t = subst (λ (k : ℕ). k ≤ 8193) (cut m e (most m e t)) (w-small m e (most m e t))
 
 pub cut-by : (x e : Float) → T (plus x) → T (le x (f8193)) → e ≡ cond (lt x (x ⊕ unitAbove ⊖ unitAbove)) f1 f0 → x ⊕ unitAbove ⊖ unitAbove ⊖ e ≡ single (toUnsigned 64 x)
 cut-by x e p t q = ap (λ (z : Float). x ⊕ unitAbove ⊖ unitAbove ⊖ z) q ∙ cut-off x p t (lt x (x ⊕ unitAbove ⊖ unitAbove)) refl
+
+-- ---- the whole part w as an i32, whose number is z, and that as a u32
+abbrev z : Float → ℤ
+z w = toZ w32 (ofZ w32 (toSigned 31 w))
+
+pub record Cast (x w : Float) : Type 0 where
+  pub signed : T (inSigned binary32 31 w)
+  pub fits : T (nonNeg (z w)) × Fits w32 (natAbs (z w))
+  pub is : natAbs (z w) ≡ toUnsigned 64 x
+
+pub cast : (x w : Float) → T (plus x) × T (le x f8193) → w ≡ single (toUnsigned 64 x) → Cast x w
+unfolding inFloat
+cast x w p q =
+    let n = toUnsigned 64 x in
+    let m : n ≤ 8193 = unsigned-most x (p .0) (p .1) in
+    let b = positive-back binary32 31 n (le→leb n (2 ^ 24) (omega arith)) (omega arith) in
+    let i : z w ≡ pos n = ap z q ∙ ap (λ (y : ℤ). toZ w32 (ofZ w32 y)) (b .1) ∙ toZ-pos w32 n (omega arith) in
+    record { signed = subst (λ (y : Float). T (inSigned binary32 31 y)) (sym q) (b .0); fits = rw i (tt, record { fits = omega arith }); is = ap natAbs i }

@@ -4,9 +4,10 @@ ghost use mathlib.Core.Path.{_≡_};
 ghost use mathlib.Core.Bool.{not, cond};
 ghost use Prim.Native.Nat.{_+_, _*_, _≤_, _<_, min};
 ghost use lib.Dec.{T};
-ghost use lib.Ieee.{isNan, nan};
-ghost use lib.ListN.{getD, length};
-ghost use Rattle.exact.specs.Single.{single, _⊖_, f1};
+ghost use lib.Ieee.{isNan, nan, lt, le, toUnsigned};
+ghost use lib.ListN.{getD, set, length};
+ghost use Rattle.exact.specs.Value.{plus};
+ghost use Rattle.exact.specs.Single.{single, _⊖_, f1, f16, f8193};
 ghost use Rattle.exact.specs.Order.{magnitude};
 ghost use Rattle.interp.specs.Sinc.{leftOf, rightOf};
 ghost use Rattle.interp.specs.Places.{placeOf, tappedBy};
@@ -66,8 +67,41 @@ fn near(v: f32) -> f32
     if u < 16.0 { u * 512.0 } else { 8193.0 }
 }
 
-// The places of tap k of all four, d before them. All are worked out before one is stored.
-fn place_row(
+// The same of what the window reaches.
+fn inner_near(v: f32) -> f32
+    requires { ⌜ T (lt (magnitude v) f16) ⌝ }
+    ensures { λ r. ⌜ r ≡ placeOf v ⌝ }
+{
+    size(v) * 512.0
+}
+
+// Stores the entries at or before four places, and the parts of the way to the next ones, as those of tap k. All are worked out
+// before one is stored. A place is small, so that its entry is an i32, too, which the machine makes of a float in one operation.
+fn put_row(y: Four, k: usize, entries: &mut [u32; 320], parts: &mut [f32; 320])
+    requires { ⌜ (k < 80) × (length (now entries) ≡ 320) × (length (now parts) ≡ 320) × (T (plus (y .x0)) × T (le (y .x0) f8193)) × (T (plus (y .x1)) × T (le (y .x1) f8193)) × (T (plus (y .x2)) × T (le (y .x2) f8193)) × (T (plus (y .x3)) × T (le (y .x3) f8193)) ⌝ }
+    ensures { λ _. ⌜ (now (entries .exit) ≡ set (set (set (set (now (entries .entry)) (4 * k) (toUnsigned 64 (y .x0))) (4 * k + 1) (toUnsigned 64 (y .x1))) (4 * k + 2) (toUnsigned 64 (y .x2))) (4 * k + 3) (toUnsigned 64 (y .x3))) × (now (parts .exit) ≡ set (set (set (set (now (parts .entry)) (4 * k) (y .x0 ⊖ single (toUnsigned 64 (y .x0)))) (4 * k + 1) (y .x1 ⊖ single (toUnsigned 64 (y .x1)))) (4 * k + 2) (y .x2 ⊖ single (toUnsigned 64 (y .x2)))) (4 * k + 3) (y .x3 ⊖ single (toUnsigned 64 (y .x3)))) ⌝ }
+{
+    let w0 = whole(y.x0);
+    let w1 = whole(y.x1);
+    let w2 = whole(y.x2);
+    let w3 = whole(y.x3);
+    let i0 = (w0 as i32) as u32;
+    let i1 = (w1 as i32) as u32;
+    let i2 = (w2 as i32) as u32;
+    let i3 = (w3 as i32) as u32;
+    let m = 4 * k;
+    entries[m] = i0;
+    entries[m + 1] = i1;
+    entries[m + 2] = i2;
+    entries[m + 3] = i3;
+    parts[m] = y.x0 - w0;
+    parts[m + 1] = y.x1 - w1;
+    parts[m + 2] = y.x2 - w2;
+    parts[m + 3] = y.x3 - w3;
+}
+
+// The places of the first or the last tap of all four, d before them.
+fn end_places(
     span: SincSpan,
     f: Four,
     d: f32,
@@ -78,41 +112,50 @@ fn place_row(
     requires { ⌜ Inside span × Parts f × (k < 2 * span .half) × (d ≡ single (span .half) ⊖ f1 ⊖ single k) × Rows span f (now entries) (now parts) k × (length (now entries) ≡ 320) × (length (now parts) ≡ 320) ⌝ }
     ensures { λ _. ⌜ Rows span f (now (entries .exit)) (now (parts .exit)) (k + 1) × (length (now (entries .exit)) ≡ 320) × (length (now (parts .exit)) ≡ 320) ⌝ }
 {
-    let y0 = near((f.x0 + d) * span.fc);
-    let y1 = near((f.x1 + d) * span.fc);
-    let y2 = near((f.x2 + d) * span.fc);
-    let y3 = near((f.x3 + d) * span.fc);
-    let w0 = whole(y0);
-    let w1 = whole(y1);
-    let w2 = whole(y2);
-    let w3 = whole(y3);
-    let i0 = (w0 as u16) as u32;
-    let i1 = (w1 as u16) as u32;
-    let i2 = (w2 as u16) as u32;
-    let i3 = (w3 as u16) as u32;
-    let m = 4 * k;
-    entries[m] = i0;
-    entries[m + 1] = i1;
-    entries[m + 2] = i2;
-    entries[m + 3] = i3;
-    parts[m] = y0 - w0;
-    parts[m + 1] = y1 - w1;
-    parts[m + 2] = y2 - w2;
-    parts[m + 3] = y3 - w3;
+    let y = Four {
+        x0: near((f.x0 + d) * span.fc),
+        x1: near((f.x1 + d) * span.fc),
+        x2: near((f.x2 + d) * span.fc),
+        x3: near((f.x3 + d) * span.fc),
+    };
+    put_row(y, k, entries, parts);
 }
 
-// The places of all taps. The tap is counted in a float, too, so that the distance needs no conversion.
+// The places of any other tap.
+fn inner_places(
+    span: SincSpan,
+    f: Four,
+    d: f32,
+    k: usize,
+    entries: &mut [u32; 320],
+    parts: &mut [f32; 320],
+)
+    requires { ⌜ Inside span × Parts f × (0 < k) × (k + 1 < 2 * span .half) × (d ≡ single (span .half) ⊖ f1 ⊖ single k) × Rows span f (now entries) (now parts) k × (length (now entries) ≡ 320) × (length (now parts) ≡ 320) ⌝ }
+    ensures { λ _. ⌜ Rows span f (now (entries .exit)) (now (parts .exit)) (k + 1) × (length (now (entries .exit)) ≡ 320) × (length (now (parts .exit)) ≡ 320) ⌝ }
+{
+    let y = Four {
+        x0: inner_near((f.x0 + d) * span.fc),
+        x1: inner_near((f.x1 + d) * span.fc),
+        x2: inner_near((f.x2 + d) * span.fc),
+        x3: inner_near((f.x3 + d) * span.fc),
+    };
+    put_row(y, k, entries, parts);
+}
+
+// The places of all taps. The distance is counted down in a float, so that it needs no conversion.
 fn places(span: SincSpan, f: Four, entries: &mut [u32; 320], parts: &mut [f32; 320])
     requires { ⌜ Inside span × Parts f × (length (now entries) ≡ 320) × (length (now parts) ≡ 320) ⌝ }
     ensures { λ _. ⌜ Rows span f (now (entries .exit)) (now (parts .exit)) (2 * span .half) × (length (now (entries .exit)) ≡ 320) × (length (now (parts .exit)) ≡ 320) ⌝ }
 {
-    let count = 2 * (span.half as usize);
+    let last = 2 * (span.half as usize) - 1;
     let top = (span.half as f32) - 1.0;
-    let mut at = 0.0f32;
-    for k in 0..count {
-        place_row(span, f, top - at, k, entries, parts);
-        at = at + 1.0;
+    end_places(span, f, top, 0, entries, parts);
+    let mut d = top - 1.0;
+    for k in 1..last {
+        inner_places(span, f, d, k, entries, parts);
+        d = d - 1.0;
     }
+    end_places(span, f, d, last, entries, parts);
 }
 
 // One tap more, in the window.

@@ -1,49 +1,72 @@
 use mathlib.Core.Path.{_≡_}
-use Prim.Native.Nat.{_≤_, _-_, _*_}
+use Prim.Native.Nat.{_≤_, _-_}
+use native.Mathlib.Nat.{le-antisymm}
 use native.Mathlib.Omega.{arith}
 use borrow.Author.Needs.{needs}
 use lib.ListN.{length}
-use Rattle.exact.specs.Single.{single}
+use Rattle.exact.specs.Single.{_⊖_, single, f1}
 use Rattle.interp.specs.Four.{Rows}
-use Rattle.interp.proofs.Inner.{none}
-use Rattle.interp.proofs.Rows.{rows-none, rows-all, away, one-more}
+use Rattle.interp.proofs.Inner.{away-first, away-next}
+use Rattle.interp.proofs.Rows.{rows-none, rows-at, away-at}
 use Rattle.interp.proofs.four.places.Statement.{statement}
 use Rattle.interp.proofs.four.places.Tie as tie
-use Rattle.interp.proofs.four.places.Reads as reads
-use Rattle.interp.proofs.four.places.Lts as lts
 
 abbrev Inv-loop : tie.InvT-loop
-Inv-loop span f entries₀ parts₀ count top at₀ k₀ entries parts at k = (k ≤ 2 * span .half) × (at ≡ single k) × Rows span f entries parts k × (length entries ≡ 320) × (length parts ≡ 320)
+Inv-loop span f entries₀ parts₀ last top d₀ k₀ entries parts d k = (1 ≤ k) × (k ≤ last) × (d ≡ single (span .half) ⊖ f1 ⊖ single k) × Rows span f entries parts k × (length entries ≡ 320) × (length parts ≡ 320)
 
 abbrev μ-loop : tie.MeasureT-loop
-μ-loop span f entries₀ parts₀ count top at₀ k₀ entries parts at k = 2 * span .half - k
+μ-loop span f entries₀ parts₀ last top d₀ k₀ entries parts d k = last - k
 
-cast-count : tie.Need-cast-count Inv-loop μ-loop
-cast-count c = omega arith
+cast-last : tie.Need-cast-last Inv-loop μ-loop
+cast-last c = omega arith
 
-mul-count : tie.Need-mul-count Inv-loop μ-loop
-mul-count c = omega arith
+mul-last : tie.Need-mul-last Inv-loop μ-loop
+mul-last c = omega arith
+
+sub-last : tie.Need-sub-last Inv-loop μ-loop
+sub-last c = omega (arith, c .before .pre .0 .least)
 
 int-to-float-top : tie.Need-int-to-float-top Inv-loop μ-loop
 int-to-float-top c = search needs
 
-loop-holds : tie.Need-loop-holds Inv-loop μ-loop
-loop-holds c = let p = c .before .before .pre in (omega arith, none, rows-none _ _ _ _, p .2, p .3)
+end-places-requires : tie.Need-end-places-requires Inv-loop μ-loop
+end-places-requires c κs = let p = c .before .before .before .before .pre in (p .0, p .1, omega (arith, p .0 .least), away-first _ (omega (arith, p .0 .least)) (p .0 .most), rows-none _ _ _ _, p .2, p .3)
 
-place-row-requires : tie.Need-place-row-requires Inv-loop μ-loop
-place-row-requires c κs = let l = c .before .before .before .loop .inv in let p = c .before .before .before .before .before .before .pre in (p .0, p .1, c .before .before .loop-test .taken, away _ _ _ (l .1), l .2, l .3, l .4)
+loop-holds : tie.Need-loop-holds Inv-loop μ-loop
+loop-holds c =
+    let p = c .before .before .before .before .before .pre .0 in
+    let r = c .end-places .ensures in
+    (omega arith, omega (arith, p .least), away-next _ 0 _ (omega (arith, p .least)) (p .most) (omega arith) (away-first _ (omega (arith, p .least)) (p .most)), r .0, r .1, r .2)
+
+inner-places-requires : tie.Need-inner-places-requires Inv-loop μ-loop
+inner-places-requires c κs =
+    let p = c .before .before .before .before .before .before .before .before .before .pre in
+    let l = c .before .before .before .loop .inv in
+    (p .0, p .1, omega (arith, l .0), omega (arith, c .before .before .loop-test .taken), l .2, l .3, l .4, l .5)
 
 add-k : tie.Need-add-k Inv-loop μ-loop
-add-k c = omega arith
+add-k c = omega (arith, c .before .before .before .loop-test .taken)
 
 loop-less : tie.Need-loop-less Inv-loop μ-loop
-loop-less c = omega arith
+loop-less c = omega (arith, c .before .before .before .loop-test .taken)
 
 loop-again : tie.Need-loop-again Inv-loop μ-loop
-loop-again c = let l = c .before .before .before .before .loop .inv in let p = c .before .before .before .before .before .before .before .pre in let t = c .before .before .before .loop-test .taken in let r = c .place-row .ensures in (omega (arith, t), one-more _ _ (l .1) (omega (arith, t, p .0 .most)), r .0, r .1, r .2)
+loop-again c =
+    let p = c .before .before .before .before .before .before .before .before .before .before .pre .0 in
+    let l = c .before .before .before .before .loop .inv in
+    let t = c .before .before .before .loop-test .taken in
+    let r = c .inner-places .ensures in
+    (omega arith, omega (arith, t), away-next _ _ _ (omega (arith, p .least)) (p .most) (omega (arith, t, p .most)) (l .2), r .0, r .1, r .2)
+
+end-places-requires-2 : tie.Need-end-places-requires-2 Inv-loop μ-loop
+end-places-requires-2 c κs =
+    let p = c .before .before .before .before .before .before .before .before .before .pre in
+    let l = c .before .before .before .loop .inv in
+    let e = le-antisymm (l .1) (c .before .before .loop-test .left) in
+    (p .0, p .1, omega (arith, p .0 .least), away-at _ _ _ _ e (l .2), rows-at _ _ _ _ _ _ e (l .3), l .4, l .5)
 
 returns : tie.Need-returns Inv-loop μ-loop
-returns c = let l = c .before .loop .inv in (rows-all _ _ _ _ _ (l .0) (c .loop-test .left) (l .2), l .3, l .4)
+returns c = let r = c .end-places2 .ensures in (rows-at _ _ _ _ _ _ (omega (arith, c .before .before .before .before .before .before .before .before .before .before .pre .0 .least)) (r .0), r .1, r .2)
 
 pub places-spec : {M : Type 1} → statement M
 places-spec =
@@ -51,12 +74,15 @@ places-spec =
     (tie.spec
     Inv-loop
     μ-loop
-    cast-count
-    mul-count
+    cast-last
+    mul-last
+    sub-last
     int-to-float-top
+    end-places-requires
     loop-holds
-    place-row-requires
+    inner-places-requires
     add-k
     loop-less
     loop-again
+    end-places-requires-2
     returns)

@@ -1,5 +1,5 @@
-use mathlib.Core.Path.{_≡_, _∙_}
-use Prim.Native.Nat.{_+_, _-_, _*_, _≤_, _<_}
+use mathlib.Core.Path.{_∙_}
+use Prim.Native.Nat.{_-_, _*_, _≤_}
 use native.Mathlib.Omega.{arith}
 use Rattle.interp.specs.Four.{Rows, InFrames, leftLanes, rightLanes}
 use Rattle.interp.specs.declared.sinc.SincSpan.{SincSpan}
@@ -7,8 +7,6 @@ use Rattle.interp.specs.declared.four.Four.{Four}
 use Rattle.interp.proofs.Rows.{Tapped, tapped-row, tapped-none, tapped-at, all-taps, low-row, in-frames}
 use Rattle.interp.proofs.four.sinc_four_pair.Statement.{statement}
 use Rattle.interp.proofs.four.sinc_four_pair.Tie as tie
-use Rattle.interp.proofs.four.sinc_four_pair.Reads as reads
-use Rattle.interp.proofs.four.sinc_four_pair.Lts as lts
 
 abbrev Inv-loop : tie.InvT-loop
 Inv-loop table a b n entries parts last s₀ h j₀ s j = (1 ≤ j) × (j ≤ h) × ((span : SincSpan) (f : Four) → Rows span f entries parts (2 * span .half) → InFrames n (2 * span .half) a → InFrames n (2 * span .half) b → h ≤ span .half → Tapped table a span n f 1 (leftLanes s₀) × Tapped table b span n f 1 (rightLanes s₀) → Tapped table a span n f (2 * j - 1) (leftLanes s) × Tapped table b span n f (2 * j - 1) (rightLanes s))
