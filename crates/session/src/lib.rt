@@ -31,7 +31,8 @@ pub enum Limit {
     Most(u32),
 }
 
-// One sounding region of some voice, as the program's other voices see it.
+// One sounding region of some voice, as the program's other voices see it. The small fields stand together, so that a record takes 56
+// bytes and not 64: it is copied often (docs/SPEED.md).
 pub struct PlayerRecord {
     pub voice: u64,
     pub slot: u32,
@@ -41,8 +42,8 @@ pub struct PlayerRecord {
     pub note: u8,
     pub vel: u8,
     pub on_note: bool,
-    pub start: u64,
     pub offed: bool,
+    pub start: u64,
     pub off_at: OffAt,
 }
 

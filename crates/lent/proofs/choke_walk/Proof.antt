@@ -223,7 +223,7 @@ module _ {M : Type 1} (𝓤 : URA M) (H : Heap 𝓤) (A : Atoms 𝓤) (W : Given
         stays ! (load ! (from ! (stop !)) (look ! 4 refl)) $
         assigns ! (bin ! (load ! (from ! (stop !)) (look ! 1 refl)) (lit ! tt) (record { fits = far })) (from ! (stop !)) (store ! 3 refl (tt, record { fits = far })) $
         assigns ! (bin ! (load ! (from ! (fld ! refl (stop !))) (look-in ! 8 (sub ! 0 refl (whole !)))) (load ! (from ! (stop !)) (look ! 3 refl)) tt) (from ! (stop !)) (init ! 5 refl (tt, tt)) $
-        rewrite ! 5 (λ (p : ℕ). ‵ (fat fullShare tyPtr l₇ 0 (vptr b p))) (sym (place-is 64 o i)) refl $
+        rewrite ! 5 (λ (p : ℕ). ‵ (fat fullShare tyPtr l₇ 0 (vptr b p))) (sym (place-is 56 o i)) refl $
         -- [the records; _3; _4; _5; _6; _7; _8; _9; _1; _2; …]: record i is taken out, and copied to _8 and to _4
         elem-out ! R (Is R) (shows 𝓤 H A R) vals (LL.tells Rec.the-type Rec′.the-laws) fullShare (done-to i) i noRecord b o within (λ is.
         assigns ! (of-opd ! (load ! (from ! (hop ! (look ! 7 refl) (stop !))) (look-raw ! 0 refl))) (from ! (stop !)) (init ! 8 refl (LL.lawful Rec.the-type Rec′.the-laws 𝓤 H A W .typed (rec-at i) _ is .0)) $
@@ -239,7 +239,7 @@ module _ {M : Type 1} (𝓤 : URA M) (H : Heap 𝓤) (A : Atoms 𝓤) (W : Given
         -- [what y owns; record i's place; the others; _3; …]: y is stored in the place of record i
         assigns ! (bin ! (load ! (from ! (stop !)) (look ! 3 refl)) (lit ! tt) (record { fits = far })) (from ! (stop !)) (store ! 5 refl (tt, record { fits = far })) $
         assigns ! (bin ! (load ! (from ! (fld ! refl (stop !))) (look-in ! 10 (sub ! 0 refl (whole !)))) (load ! (from ! (stop !)) (look ! 5 refl)) tt) (from ! (stop !)) (init ! 9 refl (tt, tt)) $
-        rewrite ! 9 (λ (p : ℕ). ‵ (fat fullShare tyPtr l₉ 0 (vptr b p))) (sym (place-is 64 o i)) refl $
+        rewrite ! 9 (λ (p : ℕ). ‵ (fat fullShare tyPtr l₉ 0 (vptr b p))) (sym (place-is 56 o i)) refl $
         assigns ! (of-opd ! (load ! (from ! (stop !)) (look ! 8 refl))) (from ! (hop ! (look ! 9 refl) (stop !))) (store-raw ! 1 refl (LL.lawful Rec.the-type Rec′.the-laws 𝓤 H A W .typed y _ is′ .0)) $
         move ! (1 ∷ 0 ∷ []) $ elem-put ! R fullShare (done-to i) i y (v ∷ []) b o within $
         assigns-last ! (bin ! (load ! (from ! (stop !)) (look ! 1 refl)) (lit ! tt) (record { fits = next-fits })) (from ! (stop !)) (store ! 1 refl (tt, record { fits = next-fits })) $
@@ -250,7 +250,7 @@ module _ {M : Type 1} (𝓤 : URA M) (H : Heap 𝓤) (A : Atoms 𝓤) (W : Given
         within : i < length (done-to i)
         within = subst (λ (m : ℕ). i < m) (sym (first-length f xs i)) small
 
-        far : i * 64 < 2 ^ 64
+        far : i * 56 < 2 ^ 64
         far = omega (arith, room .1, small)
 
         next-fits : i + 1 < 2 ^ 64
