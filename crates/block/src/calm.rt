@@ -9,8 +9,8 @@ ghost use Rattle.block.specs.Inputs.{Reaches};
 ghost use Rattle.block.specs.Calm.{tuneOf, calmPart, settled};
 ghost use Rattle.block.specs.Ready.{Covers};
 use super::Connected;
-use super::frames::amplify_if;
-use super::frames::clear;
+use super::frames::amplify_both;
+use super::frames::clear_both;
 use super::inputs::bend_of;
 use super::inputs::input_at;
 use super::render::end_records;
@@ -65,12 +65,10 @@ pub fn play_calm(
     requires { ⌜ PlayersOk ps × (8194 ≤ length (now table)) × (length (now right) ≡ length (now left)) × Covers on (now amp) (length (now left)) ⌝ }
     ensures { λ r. ⌜ ((record { mixed = record { players = r .players; ended = r .ended }; left = now (left .exit); right = now (right .exit) }) ≡ calmPart (record { samples = now (samples .entry); frames = now (pcm .entry); table = take 8194 (now (table .entry)) }) x on (now (amp .entry)) ps (length (now (left .entry)))) × (r .over ≡ any isOver (sounding (r .players))) × PlayersOk (r .players) ⌝ }
 {
-    clear(left);
-    clear(right);
+    clear_both(left, right);
     let entries = &table[..8194];
     let m = sound_all(ps, x, samples, pcm, entries, left, right);
-    amplify_if(on, left, amp);
-    amplify_if(on, right, amp);
+    amplify_both(on, amp, left, right);
     m
 }
 

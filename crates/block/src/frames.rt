@@ -56,6 +56,22 @@ pub fn amplify_if(on: bool, xs: &mut [f32], amp: &[f32])
     amplify(xs, amp)
 }
 
+// Both outputs of a block.
+pub fn clear_both(left: &mut [f32], right: &mut [f32])
+    ensures { λ r. ⌜ (now (left .exit) ≡ replicate (length (now (left .entry))) f0) × (now (right .exit) ≡ replicate (length (now (right .entry))) f0) ⌝ }
+{
+    clear(left);
+    clear(right);
+}
+
+pub fn amplify_both(on: bool, amp: &[f32], left: &mut [f32], right: &mut [f32])
+    requires { ⌜ Covers on (now amp) (length (now left)) × Covers on (now amp) (length (now right)) ⌝ }
+    ensures { λ r. ⌜ (now (left .exit) ≡ amplified on (now (amp .entry)) (now (left .entry))) × (now (right .exit) ≡ amplified on (now (amp .entry)) (now (right .entry))) ⌝ }
+{
+    amplify_if(on, left, amp);
+    amplify_if(on, right, amp);
+}
+
 // The players sound as they are tuned.
 fn untuned() -> Tune
     ensures { λ r. ⌜ r .on ≡ false ⌝ }

@@ -14,8 +14,8 @@ ghost use Rattle.block.specs.Ready.{Ready};
 use events::Both;
 use events::SampleVoice;
 use events::off::with_players;
-use frames::amplify_if;
-use frames::clear;
+use frames::amplify_both;
+use frames::clear_both;
 use frames::play_frames;
 use inputs::bend_of;
 use inputs::input_at;
@@ -111,8 +111,7 @@ pub fn play_block(
     requires { ⌜ Ready (record { time = t; connected = c; words = now words; samples = now samples; pcm = now pcm; table = now table; freq = now freq; gate = now gate; vel = now vel; amp = now amp; seed = now seed; bend = now bend; quality = now quality; left = now left; right = now right }) v ⌝ }
     ensures { λ r. ⌜ ((record { both = r; left = now (left .exit); right = now (right .exit) }) ≡ playedBlock (record { time = t; connected = c; words = now (words .entry); samples = now (samples .entry); pcm = now (pcm .entry); table = now (table .entry); freq = now (freq .entry); gate = now (gate .entry); vel = now (vel .entry); amp = now (amp .entry); seed = now (seed .entry); bend = now (bend .entry); quality = now (quality .entry); left = now (left .entry); right = now (right .entry) }) s v) × PlayersOk (r .voice .players) ⌝ }
 {
-    clear(left);
-    clear(right);
+    clear_both(left, right);
     let p = start_block(s, v, c, freq, bend);
     let entries = &table[..8194];
     let q = play_frames(
@@ -132,8 +131,7 @@ pub fn play_block(
         right,
     );
     let on = c.amp;
-    amplify_if(on, left, amp);
-    amplify_if(on, right, amp);
+    amplify_both(on, amp, left, right);
     let session = q.session;
     let voice = q.voice;
     Both { session, voice }
