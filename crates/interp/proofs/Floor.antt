@@ -32,14 +32,18 @@ zero-eq m e z =
     let b : eqb (m * up e * 1) 0 ≡ true = is-true _ (eq→eqb y) in
     rw (a, b)
 
+-- a position with a sign is -0.0
+below-zero : (m : ℕ) (e : ℤ) → Position (fin true m e) → eq (fin true m e) first ≡ true
+unfolding le lt eq ofBits
+below-zero m e h = zero-eq m e (eqb→eq (0 * 1 * down e) (m * up e * 1) (and-l (eqb (0 * 1 * down e) (m * up e * 1)) _ (h .low)))
+
 -- any other position's is its whole part
 pub floor-whole : (p : Float) → Position p → eq p first ≡ false → ofInt binary64 (pos (toUnsigned 64 p)) ≡ floored p
 unfolding ofInt floored toUnsigned le lt ofBits
 floor-whole nan h n = absurd (h .high)
 floor-whole (inf true) h n = absurd (h .low)
 floor-whole (inf false) h n = absurd (h .high)
-floor-whole (fin true m e) h n =
-    absurd (true≢false (sym (zero-eq m e (eqb→eq (0 * 1 * down e) (m * up e * 1) (and-l (eqb (0 * 1 * down e) (m * up e * 1)) _ (h .low)))) ∙ n))
+floor-whole (fin true m e) h n = absurd (true≢false (sym (below-zero m e h) ∙ n))
 floor-whole (fin false m e) h n =
     let w : min (m * up e / down e) (2 ^ 64 - 1) ≤ 8589934592 = position-within (fin false m e) h .small in
     let q : min (m * up e / down e) (2 ^ 64 - 1) ≡ m * up e / down e = omega arith in
@@ -56,6 +60,9 @@ unfolding eq ofBits
 zero-round s m e h t =
     let z : m * up e * 1 ≡ 0 * 1 * down e = eqb→eq (m * up e * 1) (0 * 1 * down e) (and-l (eqb (m * up e * 1) (0 * 1 * down e)) _ t) in
     whole-unique binary64 (fin s m e) (round binary64 s 0 1) s 0 h (round-fits binary64 s 0 1) (refl, omega arith) (round-whole binary64 s 0 (omega arith))
+
+pub minus-zero : (m : ℕ) (e : ℤ) → T (fits binary64 (fin true m e)) → Position (fin true m e) → fin true m e ≡ round binary64 true 0 1
+minus-zero m e f h = zero-round true m e f (subst T (sym (below-zero m e h)) tt)
 
 abbrev ByIndex : Float → Type 0
 ByIndex p = eq (sub binary64 p (ofInt binary64 (pos (toUnsigned 64 p)))) first ≡ eq (sub binary64 p (floored p)) first

@@ -1,17 +1,34 @@
 // A position in a sample: the frame at or before it, and what lies between the two.
 ghost use mathlib.Core.Path.{_≡_};
+ghost use mathlib.Core.Bool.{cond};
 ghost use Prim.Native.Nat.{_≤_};
-ghost use lib.Ieee.{toUnsigned};
-ghost use Rattle.interp.specs.Position.{Position, floored, fraction, isWhole, looped};
+ghost use lib.Ieee.{lt, toUnsigned};
+ghost use Rattle.interp.specs.Position.{Position, floored, fraction, isWhole, double, looped};
 use exact::format::narrow_part;
 
-// The frame at or before a position. It is below 2^34: the remainder only tells the compiler so, for whom it is cheaper then
-// to make a double of it.
+// What the whole number r next to x is too many.
+fn excess(r: f64, x: f64) -> f64
+    ensures { λ e. ⌜ e ≡ cond (lt x r) (double 1) (double 0) ⌝ }
+{
+    if r > x { 1.0 } else { 0.0 }
+}
+
+// A position without its fraction. From 2^52 on doubles are whole numbers, so that p + 2^52 is rounded to one; it may be one too
+// many.
+fn whole(p: f64) -> f64
+    requires { ⌜ Position p ⌝ }
+    ensures { λ r. ⌜ r ≡ double (toUnsigned 64 p) ⌝ }
+{
+    let r = p + 4503599627370496.0 - 4503599627370496.0;
+    r - excess(r, p)
+}
+
+// The frame at or before a position.
 pub fn frame_index(p: f64) -> u64
     requires { ⌜ Position p ⌝ }
     ensures { λ r. ⌜ (r ≡ toUnsigned 64 p) × (r ≤ 8589934592) ⌝ }
 {
-    std::num::truncating_f64_to_u64(p) % 17179869184
+    (whole(p) as i64) as u64
 }
 
 // Rust's `p.floor()` of a position.
@@ -22,7 +39,7 @@ pub fn floor(p: f64) -> f64
     if p == 0.0 {
         return p;
     }
-    frame_index(p) as f64
+    whole(p)
 }
 
 // How far a position lies behind its frame.
@@ -38,7 +55,7 @@ pub fn is_whole(p: f64) -> bool
     requires { ⌜ Position p ⌝ }
     ensures { λ r. ⌜ r ≡ isWhole p ⌝ }
 {
-    p - (frame_index(p) as f64) == 0.0
+    p - whole(p) == 0.0
 }
 
 // The loop's size off a position until it is below end + 1. Each difference is exact, so that all of them are one.
