@@ -1,11 +1,11 @@
 -- Four frames read at a time are the kernel's, each at its own position. Assumes nothing.
-use mathlib.Core.Path.{_≡_, ap}
+use mathlib.Core.Path.{_≡_, refl, ap}
 use mathlib.Core.Bool.{Bool, true, false}
 use mathlib.Core.List.{List}
 use Prim.Native.Nat.{ℕ, _+_, _*_, _≤_, _<_}
 use native.Mathlib.Omega.{arith}
 use lib.Dec.{T}
-use lib.ListN.{length}
+use lib.ListN.{length, set}
 use lib.Ieee.{Float, binary64, toUnsigned, fits}
 use Rattle.exact.specs.Single.{f0}
 use Rattle.interp.specs.Position.{Position, fraction}
@@ -18,9 +18,9 @@ use Rattle.interp.specs.declared.four.Four.{Four}
 use Rattle.interp.specs.declared.four.Starts.{Starts}
 use Rattle.player.specs.Source.{Lent}
 use Rattle.player.specs.declared.ahead.Next.{Next}
-use Rattle.player.specs.Ahead.{Inner, Positions, AllInner}
+use Rattle.player.specs.Ahead.{Inner, Positions, AllInner, Kept}
 use Rattle.player.proofs.Behind.{fraction-part}
-use Rattle.player.proofs.Kept.{Read}
+use Rattle.player.proofs.Kept.{Read, keeps}
 
 -- what the four are read by: the frame of the first tap, and how far each lies behind its own
 pub record Begun (half : ℕ) (x : Next) (n : Starts) (f : Four) : Type 0 where
@@ -117,3 +117,15 @@ module _ (span : SincSpan) (stereo : Bool) (s : Lent) (len : ℕ) (x : Next) (n 
     r2 = mono-lane span stereo s len (n .n2) (f .x2) (x .p2) (l .x2) h (d .p2) (k .p2) (b .n2) (b .f2) (i .p2) (ap (λ (v : Four). v .x2) left) e;
     r3 = mono-lane span stereo s len (n .n3) (f .x3) (x .p3) (l .x3) h (d .p3) (k .p3) (b .n3) (b .f3) (i .p3) (ap (λ (v : Four). v .x3) left) e;
   }
+
+-- four frames more
+pub keeps-four : (span : SincSpan) (stereo : Bool) (s : Lent) (qs ls rs qs' ls' rs' : List Float) (at : ℕ) (x : Next) (l r : Four) → at + 4 ≤ 64 → AllRead span stereo s x l r
+    → qs' ≡ set (set (set (set qs at (x .p0)) (at + 1) (x .p1)) (at + 2) (x .p2)) (at + 3) (x .p3)
+    → ls' ≡ set (set (set (set ls at (l .x0)) (at + 1) (l .x1)) (at + 2) (l .x2)) (at + 3) (l .x3)
+    → rs' ≡ set (set (set (set rs at (r .x0)) (at + 1) (r .x1)) (at + 2) (r .x2)) (at + 3) (r .x3)
+    → Kept span stereo s qs ls rs → Kept span stereo s qs' ls' rs'
+keeps-four span stereo s qs ls rs qs' ls' rs' at x l r b w same-q same-l same-r h =
+    keeps span stereo s _ _ _ qs' ls' rs' (at + 3) _ _ _ (omega arith) (w .r3) same-q same-l same-r
+    (keeps span stereo s _ _ _ _ _ _ (at + 2) _ _ _ (omega arith) (w .r2) refl refl refl
+    (keeps span stereo s _ _ _ _ _ _ (at + 1) _ _ _ (omega arith) (w .r1) refl refl refl
+    (keeps span stereo s _ _ _ _ _ _ at _ _ _ (omega arith) (w .r0) refl refl refl h)))

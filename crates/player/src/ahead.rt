@@ -147,6 +147,25 @@ fn keep(
     rs[k] = r;
 }
 
+// The frames (l, r) of four positions are kept, from place `at` on.
+fn keep_four(
+    qs: &mut [f64; 64],
+    ls: &mut [f32; 64],
+    rs: &mut [f32; 64],
+    at: usize,
+    x: Next,
+    l: Four,
+    r: Four,
+)
+    requires { ⌜ at + 4 ≤ 64 ⌝ }
+    ensures { λ _. ⌜ (now (qs .exit) ≡ set (set (set (set (now (qs .entry)) at (x .p0)) (at + 1) (x .p1)) (at + 2) (x .p2)) (at + 3) (x .p3)) × (now (ls .exit) ≡ set (set (set (set (now (ls .entry)) at (l .x0)) (at + 1) (l .x1)) (at + 2) (l .x2)) (at + 3) (l .x3)) × (now (rs .exit) ≡ set (set (set (set (now (rs .entry)) at (r .x0)) (at + 1) (r .x1)) (at + 2) (r .x2)) (at + 3) (r .x3)) ⌝ }
+{
+    keep(qs, ls, rs, at, x.p0, l.x0, r.x0);
+    keep(qs, ls, rs, at + 1, x.p1, l.x1, r.x1);
+    keep(qs, ls, rs, at + 2, x.p2, l.x2, r.x2);
+    keep(qs, ls, rs, at + 3, x.p3, l.x3, r.x3);
+}
+
 // The frames of four positions are read and kept, from place `at` on.
 fn four(
     x: Next,
@@ -182,16 +201,16 @@ fn four(
         let v = sinc_four_pair(table, a, b, span, n, f, entries, parts);
         let l = v.l;
         let r = v.r;
-        keep(qs, ls, rs, at, x.p0, l.x0, r.x0);
-        keep(qs, ls, rs, at + 1, x.p1, l.x1, r.x1);
-        keep(qs, ls, rs, at + 2, x.p2, l.x2, r.x2);
-        keep(qs, ls, rs, at + 3, x.p3, l.x3, r.x3);
+        keep_four(qs, ls, rs, at, x, l, r);
     } else {
-        let v = sinc_four(table, a, span, n, f, entries, parts);
-        keep(qs, ls, rs, at, x.p0, v.x0, 0.0);
-        keep(qs, ls, rs, at + 1, x.p1, v.x1, 0.0);
-        keep(qs, ls, rs, at + 2, x.p2, v.x2, 0.0);
-        keep(qs, ls, rs, at + 3, x.p3, v.x3, 0.0);
+        let l = sinc_four(table, a, span, n, f, entries, parts);
+        let r = Four {
+            x0: 0.0,
+            x1: 0.0,
+            x2: 0.0,
+            x3: 0.0,
+        };
+        keep_four(qs, ls, rs, at, x, l, r);
     }
 }
 

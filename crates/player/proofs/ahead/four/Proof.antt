@@ -1,7 +1,5 @@
 use mathlib.Core.Path.{refl}
-use native.Mathlib.Omega.{arith}
-use Rattle.player.proofs.Kept.{keeps}
-use Rattle.player.proofs.Fours.{Begun, Doubles, all-parts, in-frames, both-read, mono-read}
+use Rattle.player.proofs.Fours.{Begun, Doubles, all-parts, in-frames, both-read, mono-read, keeps-four}
 use borrow.Author.Needs.{needs}
 use Rattle.player.proofs.ahead.four.Statement.{statement}
 use Rattle.player.proofs.ahead.four.Tie as tie
@@ -54,26 +52,8 @@ sinc-four-pair-requires c κs =
     let b = begun (c .before .before .before) in
     (p .4, p .2 .inside, all-parts _ _ _ _ _ b (p .1) (p .2 .inside .least) (p .0), in-frames _ _ _ _ _ b (p .1) _ refl, in-frames _ _ _ _ _ b (p .1) _ (p .2 .same (c .before .before .if1 .taken)), p .5, p .6)
 
-keep-requires : tie.Need-keep-requires
-keep-requires c κs = omega (arith, c .before .before .before .before .before .before .before .before .before .before .before .before .before .before .before .before .before .before .before .before .before .before .pre .3)
-
-add-keep : tie.Need-add-keep
-add-keep c = omega (arith, c .before .before .before .before .before .before .before .before .before .before .before .before .before .before .before .before .before .before .before .before .before .before .before .before .before .before .pre .3)
-
-keep-requires-2 : tie.Need-keep-requires-2
-keep-requires-2 c κs = omega (arith, c .before .before .before .before .before .before .before .before .before .before .before .before .before .before .before .before .before .before .before .before .before .before .before .before .before .before .pre .3)
-
-add-keep-2 : tie.Need-add-keep-2
-add-keep-2 c = omega (arith, c .before .before .before .before .before .before .before .before .before .before .before .before .before .before .before .before .before .before .before .before .before .before .before .before .before .before .before .before .before .before .pre .3)
-
-keep-requires-3 : tie.Need-keep-requires-3
-keep-requires-3 c κs = omega (arith, c .before .before .before .before .before .before .before .before .before .before .before .before .before .before .before .before .before .before .before .before .before .before .before .before .before .before .before .before .before .before .pre .3)
-
-add-keep-3 : tie.Need-add-keep-3
-add-keep-3 c = omega (arith, c .before .before .before .before .before .before .before .before .before .before .before .before .before .before .before .before .before .before .before .before .before .before .before .before .before .before .before .before .before .before .before .before .before .before .pre .3)
-
-keep-requires-4 : tie.Need-keep-requires-4
-keep-requires-4 c κs = omega (arith, c .before .before .before .before .before .before .before .before .before .before .before .before .before .before .before .before .before .before .before .before .before .before .before .before .before .before .before .before .before .before .before .before .before .before .pre .3)
+keep-four-requires : tie.Need-keep-four-requires
+keep-four-requires c κs = c .before .before .before .before .before .before .before .before .before .before .before .before .before .before .before .before .before .before .before .before .before .before .pre .3
 
 sinc-four-requires : tie.Need-sinc-four-requires
 sinc-four-requires c κs =
@@ -81,77 +61,24 @@ sinc-four-requires c κs =
     let b = begun (c .before .before .before) in
     (p .4, p .2 .inside, all-parts _ _ _ _ _ b (p .1) (p .2 .inside .least) (p .0), in-frames _ _ _ _ _ b (p .1) _ refl, p .5, p .6)
 
-keep-requires-5 : tie.Need-keep-requires-5
-keep-requires-5 c κs = omega (arith, c .before .before .before .before .before .before .before .before .before .before .before .before .before .before .before .before .before .before .before .before .pre .3)
-
-add-keep-4 : tie.Need-add-keep-4
-add-keep-4 c = omega (arith, c .before .before .before .before .before .before .before .before .before .before .before .before .before .before .before .before .before .before .before .before .before .before .before .before .pre .3)
-
-keep-requires-6 : tie.Need-keep-requires-6
-keep-requires-6 c κs = omega (arith, c .before .before .before .before .before .before .before .before .before .before .before .before .before .before .before .before .before .before .before .before .before .before .before .before .pre .3)
-
-add-keep-5 : tie.Need-add-keep-5
-add-keep-5 c = omega (arith, c .before .before .before .before .before .before .before .before .before .before .before .before .before .before .before .before .before .before .before .before .before .before .before .before .before .before .before .before .pre .3)
-
-keep-requires-7 : tie.Need-keep-requires-7
-keep-requires-7 c κs = omega (arith, c .before .before .before .before .before .before .before .before .before .before .before .before .before .before .before .before .before .before .before .before .before .before .before .before .before .before .before .before .pre .3)
-
-add-keep-6 : tie.Need-add-keep-6
-add-keep-6 c = omega (arith, c .before .before .before .before .before .before .before .before .before .before .before .before .before .before .before .before .before .before .before .before .before .before .before .before .before .before .before .before .before .before .before .before .pre .3)
-
-keep-requires-8 : tie.Need-keep-requires-8
-keep-requires-8 c κs = omega (arith, c .before .before .before .before .before .before .before .before .before .before .before .before .before .before .before .before .before .before .before .before .before .before .before .before .before .before .before .before .before .before .before .before .pre .3)
+keep-four-requires-2 : tie.Need-keep-four-requires-2
+keep-four-requires-2 c κs = c .before .before .before .before .before .before .before .before .before .before .before .before .before .before .before .before .before .before .before .before .pre .3
 
 returns : tie.Need-returns
 returns c =
-    let p = c .before .before .before .before .before .before .before .before .before .before .before .before .before .before .before .before .before .before .before .before .before .before .before .before .before .before .before .before .before .before .before .before .before .before .before .pre in
-    let v = c .before .before .before .before .before .before .before .before .before .before .before .before .before .before .before .before .before .before .sinc-four-pair .ensures in
-    let w = both-read _ _ _ _ _ _ _ _ (p .2 .inside .least) (doubles (c .before .before .before .before .before .before .before .before .before .before .before .before .before .before .before .before .before .before .before .before .before .before .before .before .before .before .before .before .before .before .before .before .before .before .before)) (p .0) (begun (c .before .before .before .before .before .before .before .before .before .before .before .before .before .before .before .before .before .before .before .before .before .before)) (p .1) (v .0) _ (c .before .before .before .before .before .before .before .before .before .before .before .before .before .before .before .before .before .before .before .before .before .if1 .taken) (v .1) in
-    let b = p .3 in
-    let k0 = keeps _ _ _ _ _ _ _ _ _ _ _ _ _ (omega (arith, b)) (w .r0) (c .before .before .before .before .before .before .before .before .before .before .before .before .keep .ensures .0) (c .before .before .before .before .before .before .before .before .before .before .before .before .keep .ensures .1) (c .before .before .before .before .before .before .before .before .before .before .before .before .keep .ensures .2) (p .7) in
-    let k1 = keeps _ _ _ _ _ _ _ _ _ _ _ _ _ (omega (arith, b)) (w .r1) (c .before .before .before .before .before .before .before .before .keep2 .ensures .0) (c .before .before .before .before .before .before .before .before .keep2 .ensures .1) (c .before .before .before .before .before .before .before .before .keep2 .ensures .2) k0 in
-    let k2 = keeps _ _ _ _ _ _ _ _ _ _ _ _ _ (omega (arith, b)) (w .r2) (c .before .before .before .before .keep3 .ensures .0) (c .before .before .before .before .keep3 .ensures .1) (c .before .before .before .before .keep3 .ensures .2) k1 in
-    (v .2, v .3, keeps _ _ _ _ _ _ _ _ _ _ _ _ _ (omega (arith, b)) (w .r3) (c .keep4 .ensures .0) (c .keep4 .ensures .1) (c .keep4 .ensures .2) k2)
+    let p = c .before .before .before .before .before .before .before .before .before .before .before .before .before .before .before .before .before .before .before .before .before .before .before .pre in
+    let v = c .before .before .before .before .before .before .sinc-four-pair .ensures in
+    let w = both-read _ _ _ _ _ _ _ _ (p .2 .inside .least) (doubles (c .before .before .before .before .before .before .before .before .before .before .before .before .before .before .before .before .before .before .before .before .before .before .before)) (p .0) (begun (c .before .before .before .before .before .before .before .before .before .before)) (p .1) (v .0) _ (c .before .before .before .before .before .before .before .before .before .if1 .taken) (v .1) in
+    let k = c .keep-four .ensures in
+    (v .2, v .3, keeps-four _ _ _ _ _ _ _ _ _ _ _ _ _ (p .3) w (k .0) (k .1) (k .2) (p .7))
 
 returns-2 : tie.Need-returns-2
 returns-2 c =
-    let p = c .before .before .before .before .before .before .before .before .before .before .before .before .before .before .before .before .before .before .before .before .before .before .before .before .before .before .before .before .before .before .before .before .before .pre in
-    let v = c .before .before .before .before .before .before .before .before .before .before .before .before .before .before .before .before .sinc-four .ensures in
-    let w = mono-read _ _ _ _ _ _ _ _ (p .2 .inside .least) (doubles (c .before .before .before .before .before .before .before .before .before .before .before .before .before .before .before .before .before .before .before .before .before .before .before .before .before .before .before .before .before .before .before .before .before)) (p .0) (begun (c .before .before .before .before .before .before .before .before .before .before .before .before .before .before .before .before .before .before .before .before)) (p .1) (v .0) (c .before .before .before .before .before .before .before .before .before .before .before .before .before .before .before .before .before .before .before .if1 .left) in
-    let b = p .3 in
-    let k0 = keeps _ _ _ _ _ _ _ _ _ _ _ _ _ (omega (arith, b)) (w .r0) (c .before .before .before .before .before .before .before .before .before .before .before .before .keep5 .ensures .0) (c .before .before .before .before .before .before .before .before .before .before .before .before .keep5 .ensures .1) (c .before .before .before .before .before .before .before .before .before .before .before .before .keep5 .ensures .2) (p .7) in
-    let k1 = keeps _ _ _ _ _ _ _ _ _ _ _ _ _ (omega (arith, b)) (w .r1) (c .before .before .before .before .before .before .before .before .keep6 .ensures .0) (c .before .before .before .before .before .before .before .before .keep6 .ensures .1) (c .before .before .before .before .before .before .before .before .keep6 .ensures .2) k0 in
-    let k2 = keeps _ _ _ _ _ _ _ _ _ _ _ _ _ (omega (arith, b)) (w .r2) (c .before .before .before .before .keep7 .ensures .0) (c .before .before .before .before .keep7 .ensures .1) (c .before .before .before .before .keep7 .ensures .2) k1 in
-    (v .1, v .2, keeps _ _ _ _ _ _ _ _ _ _ _ _ _ (omega (arith, b)) (w .r3) (c .keep8 .ensures .0) (c .keep8 .ensures .1) (c .keep8 .ensures .2) k2)
+    let p = c .before .before .before .before .before .before .before .before .before .before .before .before .before .before .before .before .before .before .before .before .before .pre in
+    let v = c .before .before .before .before .sinc-four .ensures in
+    let w = mono-read _ _ _ _ _ _ _ _ (p .2 .inside .least) (doubles (c .before .before .before .before .before .before .before .before .before .before .before .before .before .before .before .before .before .before .before .before .before)) (p .0) (begun (c .before .before .before .before .before .before .before .before)) (p .1) (v .0) (c .before .before .before .before .before .before .before .if1 .left) in
+    let k = c .keep-four2 .ensures in
+    (v .1, v .2, keeps-four _ _ _ _ _ _ _ _ _ _ _ _ _ (p .3) w (k .0) (k .1) (k .2) (p .7))
 
 pub four-spec : {M : Type 1} → statement M
-four-spec =
-    tie.close
-    (tie.spec
-    cast-h
-    start-at-requires
-    start-at-requires-2
-    start-at-requires-3
-    start-at-requires-4
-    fraction-requires
-    fraction-requires-2
-    fraction-requires-3
-    fraction-requires-4
-    sinc-four-pair-requires
-    keep-requires
-    add-keep
-    keep-requires-2
-    add-keep-2
-    keep-requires-3
-    add-keep-3
-    keep-requires-4
-    sinc-four-requires
-    keep-requires-5
-    add-keep-4
-    keep-requires-6
-    add-keep-5
-    keep-requires-7
-    add-keep-6
-    keep-requires-8
-    returns
-    returns-2)
+four-spec = tie.close (tie.spec cast-h start-at-requires start-at-requires-2 start-at-requires-3 start-at-requires-4 fraction-requires fraction-requires-2 fraction-requires-3 fraction-requires-4 sinc-four-pair-requires keep-four-requires sinc-four-requires keep-four-requires-2 returns returns-2)
