@@ -37,17 +37,22 @@ below-zero : (m : ℕ) (e : ℤ) → Position (fin true m e) → eq (fin true m 
 unfolding le lt eq ofBits
 below-zero m e h = zero-eq m e (eqb→eq (0 * 1 * down e) (m * up e * 1) (and-l (eqb (0 * 1 * down e) (m * up e * 1)) _ (h .low)))
 
--- any other position's is its whole part
+-- that of a position without a sign is its whole part
+pub floor-plus : (m : ℕ) (e : ℤ) → Position (fin false m e) → ofInt binary64 (pos (toUnsigned 64 (fin false m e))) ≡ floored (fin false m e)
+unfolding ofInt floored toUnsigned
+floor-plus m e h =
+    let w : min (m * up e / down e) (2 ^ 64 - 1) ≤ 8589934592 = position-within (fin false m e) h .small in
+    let q : min (m * up e / down e) (2 ^ 64 - 1) ≡ m * up e / down e = omega arith in
+    ap (λ (a : ℕ). round binary64 false a 1) q
+
+-- and so is any other position's than a zero's
 pub floor-whole : (p : Float) → Position p → eq p first ≡ false → ofInt binary64 (pos (toUnsigned 64 p)) ≡ floored p
-unfolding ofInt floored toUnsigned le lt ofBits
+unfolding le lt ofBits
 floor-whole nan h n = absurd (h .high)
 floor-whole (inf true) h n = absurd (h .low)
 floor-whole (inf false) h n = absurd (h .high)
 floor-whole (fin true m e) h n = absurd (true≢false (sym (below-zero m e h) ∙ n))
-floor-whole (fin false m e) h n =
-    let w : min (m * up e / down e) (2 ^ 64 - 1) ≤ 8589934592 = position-within (fin false m e) h .small in
-    let q : min (m * up e / down e) (2 ^ 64 - 1) ≡ m * up e / down e = omega arith in
-    ap (λ (a : ℕ). round binary64 false a 1) q
+floor-whole (fin false m e) h n = floor-plus m e h
 
 -- ---- a position is a frame where its whole part is the position
 at-zero : (s : Bool) → eq (sub binary64 (round binary64 s 0 1) (ofInt binary64 (pos (toUnsigned 64 (round binary64 s 0 1))))) first ≡ eq (sub binary64 (round binary64 s 0 1) (floored (round binary64 s 0 1))) first

@@ -10,5 +10,6 @@ pub mod HalfTaps
 pub mod Difference
 pub mod Whole
 pub mod Looping
+pub mod Fraction
 pub mod Inner
 pub mod Rows

@@ -31,7 +31,7 @@ pub record Grid (D : ℕ) : Type 0 where
 room : (j l : ℕ) → j ≤ l → 53 + j ≤ l + 1024
 room j l h = omega arith
 
-exact : (u D : ℕ) → Grid D → 0 < D → u < 2 ^ prec binary64 → HasValue (round binary64 false u D) false u D
+pub exact : (u D : ℕ) → Grid D → 0 < D → u < 2 ^ prec binary64 → HasValue (round binary64 false u D) false u D
 exact u D g d h =
     round-exact binary64 false u D u (g .j) d h
     (lt-of-lt-of-le (shl-lt (prec binary64) (g .j) h) (pow-mono (room (g .j) (low binary64) (g .few))))
@@ -47,7 +47,7 @@ shifts k l h = go (leb k l) (leb→le k l) (nleb→lt k l)
 less-le : (l k : ℕ) → l - k ≤ l
 less-le l k = omega arith
 
-grid-of : (e : ℤ) → down e ≤ 2 ^ low binary64 → Grid (down e)
+pub grid-of : (e : ℤ) → down e ≤ 2 ^ low binary64 → Grid (down e)
 grid-of (pos k) h = record { j = low binary64; few = le-refl (low binary64); is = mul-one (2 ^ low binary64) }
 grid-of (negsuc k) h =
     let s : suc k ≤ low binary64 = shifts (suc k) (low binary64) h in
@@ -126,7 +126,7 @@ module _ (L S D : ℕ) (d : 0 < D) (g : Grid D) (l : L ≤ 2 ^ 53) (s : S ≤ L)
 
 -- ---- a position
 -- its digits: a numerator below 2 ^ 53 and a denominator of doubles
-digits : (m : ℕ) (e : ℤ) → T (fits binary64 (fin false (suc m) e)) → (suc m < 2 ^ 53) × (down e ≤ 2 ^ low binary64)
+pub digits : (m : ℕ) (e : ℤ) → T (fits binary64 (fin false (suc m) e)) → (suc m < 2 ^ 53) × (down e ≤ 2 ^ low binary64)
 unfolding fits
 digits m e t =
     let a : Bool = eqb (suc m % 2) 1 in
@@ -135,7 +135,7 @@ digits m e t =
     let f : Bool = ltb (suc m * up e) (2 ^ 1024 * down e) in
     (ltb→lt (suc m) (2 ^ 53) (and-r a b (and-l (a && b) c (and-l (a && b && c) f t))), leb→le (down e) (2 ^ 1074) (and-r (a && b) c (and-l (a && b && c) f t)))
 
-numerator : (m : ℕ) (e : ℤ) → suc m < 2 ^ 53 → suc m * up e ≤ 8589934592 * down e → suc m * up e < 2 ^ 53
+pub numerator : (m : ℕ) (e : ℤ) → suc m < 2 ^ 53 → suc m * up e ≤ 8589934592 * down e → suc m * up e < 2 ^ 53
 numerator m (pos k) a b = omega arith
 numerator m (negsuc k) a b = omega arith
 

@@ -47,7 +47,8 @@ pub fn fraction(p: f64) -> f32
     requires { ⌜ Position p ⌝ }
     ensures { λ r. ⌜ r ≡ fraction p ⌝ }
 {
-    narrow_part(p - floor(p))
+    // a zero with a sign loses it, as it does by its own floor; no branch is needed then
+    narrow_part(p + 0.0 - whole(p))
 }
 
 // Whether a position is a frame.
