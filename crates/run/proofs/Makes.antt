@@ -19,7 +19,7 @@ use Rattle.session.proofs.Voices.{live-placed, next-placed}
 use Rattle.players.specs.Seats.{noPlayers}
 use Rattle.events.specs.declared.SampleVoice.{SampleVoice}
 use Rattle.voice.specs.Calls.{ifDone, makeAnswer, made, freshVoice}
-use Rattle.voice.specs.Tests.{rateFits, noPlace, idLeft}
+use Rattle.causes.specs.Tests.{rateFits, noPlace, idLeft}
 use Rattle.voice.specs.declared.Answer.{Answer}
 use Rattle.voice.specs.declared.Answer.the-variants.{Done, BadRate, TooManyVoices, BadBlock, BadState, TooLate}
 use Rattle.run.specs.Run.{make, Book, opening, put, note, idsIn, isLive, gatesHeld, one, sumOver}

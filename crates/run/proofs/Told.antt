@@ -14,8 +14,8 @@ use Rattle.events.specs.declared.SampleVoice.{SampleVoice}
 use Rattle.block.specs.Inputs.{Lent}
 use Rattle.block.specs.declared.Connected.{Connected}
 use Rattle.voice.specs.Calls.{ifDone, blockAnswer, endAnswer}
-use Rattle.voice.specs.Tests.{partsFit, lengthsOf, wellFormed, programFits, inTime}
-use Rattle.voice.specs.declared.Lengths.{Lengths}
+use Rattle.causes.specs.Tests.{partsFit, lengthsOf, wellFormed, programFits, inTime}
+use Rattle.causes.specs.declared.Lengths.{Lengths}
 use Rattle.voice.specs.declared.Answer.{Answer}
 use Rattle.voice.specs.declared.Answer.the-variants.{Done, BadRate, TooManyVoices, BadBlock, BadState, TooLate}
 use Rattle.run.specs.Run.{Book, idsIn, isLive}

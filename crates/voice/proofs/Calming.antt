@@ -1,25 +1,18 @@
--- What two walks find to fit passes the tests 8 and 9, and a block without events leaves what the plain way leaves. Assumes nothing.
+-- A block without events leaves what the plain way leaves. Assumes nothing.
 use Prim.Native.Nat.{ℕ, _-_, _≤_}
 use mathlib.Core.Path.{_≡_, sym, ap, _∙_}
 use mathlib.Core.Bool.{Bool, true, false, not, _&&_}
 use mathlib.Core.List.{List, _++_}
 use native.Mathlib.Nat.{lt-of-lt-of-le}
-use lib.ListN.{length, getD, take, drop, length-map}
+use lib.ListN.{length, take, drop}
 use lib.Dec.{eqb}
 use lib.Ieee.{Float}
-use borrow.Author.Tests.{ltb-false, eqb-true, not-true}
-use Rattle.program.specs.Valid.{every}
-use Rattle.program.proofs.Binding.{every-at}
+use borrow.Author.Tests.{eqb-true, not-true}
 use Rattle.players.specs.Mix.{Sounds, Mixture}
-use Rattle.players.specs.Seats.{sounding, slotNumbers, slotsFrom, isOver, PlayersOk}
-use Rattle.players.specs.Sound.{playersFit, samplesFit}
+use Rattle.players.specs.Seats.{sounding, isOver, PlayersOk}
 use Rattle.players.specs.declared.Players.{Players}
 use Rattle.players.specs.declared.mix.Tune.{Tune}
-use Rattle.players.proofs.Kept.{sounding-few}
-use Rattle.players.proofs.Seating.{slots-from}
 use Rattle.session.specs.Lists.{any}
-use Rattle.session.specs.State.{slotList}
-use Rattle.session.specs.Tests.{isLive, overLive, twiceLive, strayRecord, overRecords, overVoice, overHeld, regionOutside, slotsInOrder}
 use Rattle.session.specs.declared.Session.{Session}
 use Rattle.session.specs.declared.Slots.{Slots}
 use Rattle.events.specs.Voice.{withPlayers}
@@ -32,66 +25,18 @@ use Rattle.block.specs.Next.{nextGate}
 use Rattle.block.specs.Ready.{Covers, Ready}
 use Rattle.block.proofs.Calming.{calm-is, calm-stays}
 use Rattle.block.proofs.Wholes.{covers-as}
+use Rattle.causes.specs.Calm.{lookFits}
+use Rattle.causes.specs.Others.{offWaits}
+use Rattle.causes.specs.Tests.{partsFit, lengthsOf}
+use Rattle.causes.specs.declared.tally.Look.{Look}
+use Rattle.causes.proofs.Calming.{look-state, look-time, look-few}
+use Rattle.causes.proofs.Passed.{withOuts, ready}
+use Rattle.causes.proofs.Tallies.{and-both}
 use Rattle.voice.specs.Calls.{called, blocked}
-use Rattle.voice.specs.Calm.{lookTests, lookFits}
-use Rattle.voice.specs.Others.{othersFit, listFits, offWaits}
-use Rattle.voice.specs.Quiet.{restTests}
-use Rattle.voice.specs.Tests.{rateFits, overPlayers, formTests, wellFormed, programFits, stateFits, partsFit, lengthsOf, inTime}
 use Rattle.voice.specs.declared.Answer.{Answer}
 use Rattle.voice.specs.declared.Answer.the-variants.{Done}
 use Rattle.voice.specs.declared.Called.{Called}
-use Rattle.voice.specs.declared.tally.Look.{Look}
-use Rattle.voice.proofs.Passed.{withOuts, ready, block-out}
-use Rattle.voice.proofs.Tallies.{and-both, fit-tells}
-
-module _ (l : Lent) (s : Session) (v : SampleVoice) (fits : lookFits (l .time) (l .words) (l .samples) (length (l .pcm)) (length (l .table)) s v ≡ true) where
-  at : (i : ℕ) → getD (lookTests (l .time) (l .words) (l .samples) (length (l .pcm)) (length (l .table)) s v) i true ≡ true
-  unfolding lookFits
-  at i = every-at (lookTests (l .time) (l .words) (l .samples) (length (l .pcm)) (length (l .table)) s v) i fits
-
-  rest : (i : ℕ) → getD (restTests s v) i true ≡ true
-  rest i = every-at (restTests s v) i (at 0)
-
-  listed : (othersFit (v .program .regions) 0 s ≡ true) × (slotsInOrder (v .voice) (slotNumbers (sounding (v .players))) s ≡ true)
-  unfolding listFits
-  listed = and-both (othersFit (v .program .regions) 0 s) _ (at 5)
-
-  fit : (playersFit (v .program) (v .players) ≡ true) × (samplesFit (l .samples) (v .players) ≡ true)
-  fit = and-both (playersFit (v .program) (v .players)) _ (at 4)
-
-  formed : wellFormed s v ≡ true
-  unfolding wellFormed
-  formed =
-      let x = fit-tells (v .program .regions) 0 s (listed .0) in
-      let g = at 1 in
-      let h = rest 0 in
-      let i = rest 1 in
-      let j = rest 2 in
-      let k = rest 3 in
-      let m = rest 4 in
-      let n = rest 5 in
-      let p = listed .1 in
-      let q = fit .0 in
-      simp (g, h, i, j, k, m, n, p, q, x .0, x .1, x .2)
-
-  pub look-state : stateFits s v (l .words) (l .samples) (length (l .pcm)) (length (l .table)) ≡ true
-  unfolding programFits
-  look-state = let f = fit .1 in simp (formed, at 2, f)
-
-  pub look-time : inTime (l .time .offset) (s .«event_serial») ≡ true
-  look-time = at 3
-
-  look-few : s .count ≤ 512
-  look-few = ltb-false 512 (s .count) (not-true _ (rest 3))
-
--- the slots that the voice tells are its players'
-pub own-fits : (n id : ℕ) (s : Session) (ps : Players) (ks : Slots) (b : Bool) → ks ≡ slotsFrom (slotNumbers (sounding ps))
-    → b ≡ listFits n id (slotList ks) s → b ≡ listFits n id (slotNumbers (sounding ps)) s
-own-fits n id s ps ks b e f =
-    let few : length (slotNumbers (sounding ps)) ≤ 32 = rw (length-map (sounding ps) (λ p. p .slot)) (sounding-few ps) in
-    f ∙ ap (λ (k : Slots). listFits n id (slotList k) s) e ∙ ap (λ (k : List ℕ). listFits n id k s) (slots-from (slotNumbers (sounding ps)) few)
-
--- ---- without events
+use Rattle.voice.proofs.Refusals.{block-out}
 
 -- 8 and 9 pass, no off time waits on the voice's records, and the gate does not turn
 pub record Calm (l : Lent) (s : Session) (v : SampleVoice) : Type 0 where

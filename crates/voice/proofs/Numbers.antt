@@ -10,7 +10,7 @@ use Rattle.session.specs.declared.Session.{Session}
 use Rattle.program.specs.declared.bind.BoundProgram.{BoundProgram}
 use Rattle.events.specs.declared.SampleVoice.{SampleVoice}
 use Rattle.block.specs.Inputs.{Lent}
-use Rattle.voice.specs.Tests.{rateFits, noPlace, idLeft, partsFit, lengthsOf, wellFormed, stateFits, inTime}
+use Rattle.causes.specs.Tests.{rateFits, noPlace, idLeft, partsFit, lengthsOf, wellFormed, stateFits, inTime}
 use Rattle.voice.specs.Calls.{numberOf, ifDone, makeAnswer, made, BlockLeft, blockAnswer, blockDone, blocked, Program, askAnswer, asked, endAnswer, wasReset, wasClosed}
 use Rattle.voice.specs.Numbers.{firstOf, makeNumber, blockNumber, askNumber, endNumber}
 use Rattle.voice.specs.declared.Answer.{Answer}

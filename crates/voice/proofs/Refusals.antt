@@ -1,58 +1,27 @@
 -- What each way out of a call owes its contract. Assumes nothing.
-use Prim.Native.Nat.{ℕ, _<_, _≤_, _^_}
-use mathlib.Core.Path.{_≡_, sym, ap, _∙_}
-use mathlib.Core.Bool.{Bool, true, false, not, _&&_}
-use mathlib.Core.List.{List}
-use lib.ListN.{length, length-map}
+use Prim.Native.Nat.{ℕ, _+_, _-_, _^_, _<_, _≤_}
+use mathlib.Core.Path.{_≡_, refl, sym, ap, _∙_}
+use mathlib.Core.Bool.{Bool, true, false}
+use mathlib.Core.List.{List, _++_}
+use native.Mathlib.Omega.{arith}
+use lib.ListN.{length, take, drop, length-append, length-drop}
 use lib.Ieee.{Float}
-use borrow.Author.Tests.{le-leb, lt-leb, not-true, not-false}
+use borrow.Author.Tests.{le-leb, lt-leb}
 use Rattle.program.specs.declared.bind.BoundProgram.{BoundProgram}
-use Rattle.program.specs.Valid.{every}
-use Rattle.program.proofs.Checks.{every-append}
-use Rattle.players.specs.Seats.{sounding, slotsFrom, slotNumbers}
-use Rattle.players.specs.declared.Players.{Players}
-use Rattle.players.proofs.Kept.{sounding-few}
-use Rattle.players.proofs.Seating.{slots-from}
-use Rattle.session.specs.State.{slotList, opened, endedVoice, closedVoice}
-use Rattle.session.specs.Tests.{slotsInOrder}
+use Rattle.session.specs.State.{opened, endedVoice, closedVoice}
 use Rattle.session.specs.declared.Opened.{Opened}
 use Rattle.session.specs.declared.Session.{Session}
-use Rattle.session.specs.declared.Slots.{Slots}
 use Rattle.events.specs.declared.SampleVoice.{SampleVoice}
-use Rattle.voice.specs.Tests.{rateFits, sessionTests, voiceTests, wellFormed, programFits, stateFits, partsFit, lengthsOf, inTime}
+use Rattle.block.specs.Inputs.{Lent}
+use Rattle.block.specs.Block.{Played, playedBlock, blockStart}
+use Rattle.causes.specs.Tests.{rateFits, wellFormed, stateFits, partsFit, lengthsOf, inTime}
+use Rattle.causes.proofs.Passed.{withOuts, in-left, in-right}
 use Rattle.voice.specs.Calls.{ifDone, called, freshVoice, makeAnswer, made, Program, askAnswer, isFinished, asked, endAnswer, silenced, wasReset, wasClosed, BlockLeft, blockAnswer, overFront, blockDone, blocked}
 use Rattle.voice.specs.declared.Answer.{Answer}
 use Rattle.voice.specs.declared.Answer.the-variants.{Done, BadRate, TooManyVoices, BadBlock, BadState, TooLate}
 use Rattle.voice.specs.declared.Called.{Called}
 use Rattle.voice.specs.declared.Asked.{Asked}
-use Rattle.block.specs.Inputs.{Lent}
-use Rattle.block.specs.Block.{Played, playedBlock}
 use Rattle.voice.specs.declared.Closed.{Closed}
-
--- ---- the tests
-
--- the slots that the voice tells are its players'
-pub own-slots : (id : ℕ) (s : Session) (ps : Players) (ks : Slots) (b : Bool) → ks ≡ slotsFrom (slotNumbers (sounding ps))
-    → b ≡ slotsInOrder id (slotList ks) s → b ≡ slotsInOrder id (slotNumbers (sounding ps)) s
-own-slots id s ps ks b e f =
-    let few : length (slotNumbers (sounding ps)) ≤ 32 = rw (length-map (sounding ps) (λ p. p .slot)) (sounding-few ps) in
-    f ∙ ap (λ (k : Slots). slotsInOrder id (slotList k) s) e ∙ ap (λ (k : List ℕ). slotsInOrder id k s) (slots-from (slotNumbers (sounding ps)) few)
-
-module _ (s : Session) (v : SampleVoice) (b : Bool) (told : b ≡ every (sessionTests (v .voice) s)) where
-  pub ill-formed : not b ≡ true → false ≡ wellFormed s v
-  unfolding wellFormed
-  ill-formed e = sym (every-append (sessionTests (v .voice) s) (voiceTests s v) ∙ ap (λ (t : Bool). t && every (voiceTests s v)) (sym told ∙ not-true b e))
-
-  pub well : (r : Bool) → not b ≡ false → r ≡ every (voiceTests s v) → r ≡ wellFormed s v
-  unfolding wellFormed
-  well r e f = f ∙ sym (every-append (sessionTests (v .voice) s) (voiceTests s v) ∙ ap (λ (t : Bool). t && every (voiceTests s v)) (sym told ∙ not-false b e))
-
-module _ (s : Session) (v : SampleVoice) (ws ss : List ℕ) (frames table : ℕ) (b : Bool) (told : b ≡ wellFormed s v) where
-  pub ill-stated : not b ≡ true → false ≡ stateFits s v ws ss frames table
-  ill-stated e = sym (ap (λ (t : Bool). t && programFits v ws ss frames table) (sym told ∙ not-true b e))
-
-  pub stated : (r : Bool) → not b ≡ false → r ≡ programFits v ws ss frames table → r ≡ stateFits s v ws ss frames table
-  stated r e f = f ∙ sym (ap (λ (t : Bool). t && programFits v ws ss frames table) (sym told ∙ not-false b e))
 
 -- ---- making
 module _ (rate : Float) (b : BoundProgram) (s : Session) where
@@ -174,3 +143,34 @@ module _ (l : Lent) (s : Session) (v : SampleVoice) where
             left = overFront (q .left) (l .left);
             right = overFront (q .right) (l .right);
           }
+
+-- a block plays the same whatever its outputs held
+pub same-played : (l : Lent) (s : Session) (v : SampleVoice) (left right : List Float) → playedBlock (withOuts l left right) s v ≡ playedBlock l s v
+unfolding playedBlock blockStart
+same-played l s v left right = refl
+
+-- the first n frames of an output as they come back: the block's frames in front of the rest
+pub front-is : (n : ℕ) (xs ys : List Float) → n ≤ length xs → length (take 0 xs ++ (ys ++ drop (n - 0) (drop 0 xs))) ≡ length xs
+    → take 0 xs ++ (ys ++ drop (n - 0) (drop 0 xs)) ≡ overFront ys xs
+front-is n xs ys h e =
+    let a : length (ys ++ drop (n - 0) xs) ≡ length ys + length (drop (n - 0) xs) = length-append ys (drop (n - 0) xs) in
+    let d : length (drop (n - 0) xs) ≡ length xs - (n - 0) = length-drop (n - 0) xs in
+    let f : length (ys ++ drop (n - 0) xs) ≡ length xs = e in
+    let k : n - 0 ≡ length ys = omega arith in
+    ap (λ (m : ℕ). ys ++ drop m xs) k
+
+module _ (l : Lent) (s : Session) (v : SampleVoice) where
+  -- what was played into the first frames of both outputs, and the outputs as the call leaves them
+  pub block-out : partsFit (l .time .frames) (l .connected) (lengthsOf l) ≡ true
+      → stateFits s v (l .words) (l .samples) (length (l .pcm)) (length (l .table)) ≡ true → inTime (l .time .offset) (s .«event_serial») ≡ true
+      → (p : Played) (a b : List Float) → p ≡ playedBlock (withOuts l a b) s v
+      → length (take 0 (l .left) ++ (p .left ++ drop (l .time .frames - 0) (drop 0 (l .left)))) ≡ length (l .left)
+      → length (take 0 (l .right) ++ (p .right ++ drop (l .time .frames - 0) (drop 0 (l .right)))) ≡ length (l .right)
+      → record {
+        called = called Done (p .both .session) (p .both .voice);
+        left = take 0 (l .left) ++ (p .left ++ drop (l .time .frames - 0) (drop 0 (l .left)));
+        right = take 0 (l .right) ++ (p .right ++ drop (l .time .frames - 0) (drop 0 (l .right)));
+      } ≡ blocked l s v
+  block-out fits state timely p a b e f g =
+      block-done l s v fits state timely p (e ∙ same-played l s v a b) _ _ (front-is (l .time .frames) (l .left) (p .left) (in-left l s v fits) f)
+      (front-is (l .time .frames) (l .right) (p .right) (in-right l s v fits) g)

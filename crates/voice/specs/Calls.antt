@@ -17,7 +17,7 @@ use Rattle.note.specs.declared.MaybeNote.the-variants.{Absent, Present}
 use Rattle.events.specs.declared.SampleVoice.{SampleVoice}
 use Rattle.block.specs.Inputs.{Lent}
 use Rattle.block.specs.Block.{playedBlock}
-use Rattle.voice.specs.Tests.{rateFits, noPlace, idLeft, partsFit, lengthsOf, wellFormed, stateFits, inTime}
+use Rattle.causes.specs.Tests.{rateFits, noPlace, idLeft, partsFit, lengthsOf, wellFormed, stateFits, inTime}
 use Rattle.voice.specs.declared.Answer.{Answer}
 use Rattle.voice.specs.declared.Answer.the-variants.{Done, BadRate, TooManyVoices, BadBlock, BadState, TooLate}
 use Rattle.voice.specs.declared.Called.{Called}

@@ -1,6 +1,2 @@
-pub mod Tests
-pub mod Others
-pub mod Quiet
-pub mod Calm
 pub mod Calls
 pub mod Numbers

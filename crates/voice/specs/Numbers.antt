@@ -9,7 +9,7 @@ use Rattle.session.specs.Lists.{pick}
 use Rattle.session.specs.declared.Session.{Session}
 use Rattle.events.specs.declared.SampleVoice.{SampleVoice}
 use Rattle.block.specs.Inputs.{Lent}
-use Rattle.voice.specs.Tests.{rateFits, noPlace, idLeft, partsFit, lengthsOf, wellFormed, stateFits, inTime}
+use Rattle.causes.specs.Tests.{rateFits, noPlace, idLeft, partsFit, lengthsOf, wellFormed, stateFits, inTime}
 use Rattle.voice.specs.Calls.{Program}
 
 abbrev pub firstOf : List (Bool × ℕ) → ℕ

@@ -1,11 +1,6 @@
 // The public calls of a voice: making, a block, asking whether it is finished, reset and close. None has a precondition: each gives its
 // result or the refusal that its inputs call for, and a refused call changes nothing. A contract is one equation for all that the call
 // leaves, and beside it the number of its answer: 01's first cause that holds, 0 where none does.
-pub mod calm;
-pub mod check;
-pub mod quiet;
-pub mod tally;
-
 ghost use mathlib.Core.Path.{_≡_};
 ghost use lib.ListN.{length};
 ghost use Rattle.block.specs.Inputs.{Lent};
@@ -17,20 +12,21 @@ use block::calm::play_calm;
 use block::calm::settle;
 use block::calm::tune_of;
 use block::play_block;
-use calm::is_calm;
-use calm::look;
-use check::in_time;
-use check::parts_fit;
-use check::rate_fits;
-use check::state_fits;
-use check::well_formed;
+use causes::Lengths;
+use causes::calm::is_calm;
+use causes::calm::look;
+use causes::check::in_time;
+use causes::check::parts_fit;
+use causes::check::rate_fits;
+use causes::check::state_fits;
+use causes::check::well_formed;
+use causes::quiet::is_quiet;
+use causes::quiet::quiet_outputs;
 use events::SampleVoice;
 use note::MaybeNote;
 use players::no_players;
 use program::bind::BoundProgram;
 use program::lookup::has_release_for;
-use quiet::is_quiet;
-use quiet::quiet_outputs;
 use session::Session;
 use session::close_voice;
 use session::end_voice;
@@ -61,19 +57,6 @@ pub struct Asked {
 pub struct Closed {
     pub answer: Answer,
     pub session: Session,
-}
-
-// How long each lent part of a block is.
-pub struct Lengths {
-    pub freq: usize,
-    pub gate: usize,
-    pub vel: usize,
-    pub amp: usize,
-    pub seed: usize,
-    pub bend: usize,
-    pub quality: usize,
-    pub left: usize,
-    pub right: usize,
 }
 
 // A call that leaves session and voice as they were: one that is turned back, or a quiet block.

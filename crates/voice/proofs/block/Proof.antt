@@ -8,12 +8,14 @@ use borrow.Author.Needs.{needs}
 use Rattle.session.proofs.Walks.{long}
 use Rattle.block.specs.Inputs.{Lent}
 use Rattle.voice.specs.declared.Called.{Called}
-use Rattle.voice.specs.Tests.{partsFit, lengthsOf, stateFits, inTime}
-use Rattle.voice.proofs.Refusals.{block-7, block-8, block-9}
+use Rattle.causes.specs.Tests.{partsFit, lengthsOf, stateFits, inTime}
 use Rattle.block.proofs.Wholes.{covers-as}
-use Rattle.voice.proofs.Passed.{in-left, in-right, part-length, ready, block-out}
-use Rattle.voice.proofs.Calming.{Calm, calm-told, look-state, look-time, calm-asks, calm-out, left-by, stays-as}
-use Rattle.voice.proofs.Idle.{gate-covers, amp-covers, quiet-out}
+use Rattle.causes.proofs.Calming.{look-state, look-time}
+use Rattle.causes.proofs.Idle.{gate-covers, amp-covers}
+use Rattle.causes.proofs.Passed.{in-left, in-right, part-length, ready}
+use Rattle.voice.proofs.Refusals.{block-7, block-8, block-9, block-out}
+use Rattle.voice.proofs.Calming.{Calm, calm-told, calm-asks, calm-out, left-by, stays-as}
+use Rattle.voice.proofs.Idle.{quiet-out}
 use Rattle.voice.proofs.Numbers.{block-promise}
 use Rattle.voice.proofs.block.Statement.{statement}
 use Rattle.voice.proofs.block.Tie as tie

@@ -1,0 +1,4 @@
+pub mod Tests
+pub mod Others
+pub mod Quiet
+pub mod Calm
