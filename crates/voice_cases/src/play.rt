@@ -38,6 +38,41 @@ pub fn block_left(
     left(a, same && same_output(x, l) && same_output(y, r))
 }
 
+// With `none` for each input. Lent seven times from a local array it would take the prover a minute.
+fn block_of(
+    s: Session,
+    v: SampleVoice,
+    t: BlockTime,
+    words: &[u32],
+    samples: &[u32],
+    pcm: &[f32],
+    table: &[f32],
+    none: &[f32],
+    l: &mut [f32],
+    r: &mut [f32],
+) -> Called {
+    let c = connected(false);
+    block(
+        s,
+        v,
+        t,
+        c,
+        words,
+        samples,
+        pcm,
+        table,
+        none,
+        none,
+        none,
+        none,
+        none,
+        none,
+        none,
+        l,
+        r,
+    )
+}
+
 // A block with no input connected, which is a gate that is up.
 fn unconnected(
     s: Session,
@@ -50,27 +85,8 @@ fn unconnected(
     l: &mut [f32],
     r: &mut [f32],
 ) -> Called {
-    let c = connected(false);
     let x = [0.0f32; 0];
-    block(
-        s,
-        v,
-        t,
-        c,
-        words,
-        samples,
-        pcm,
-        table,
-        &x,
-        &x,
-        &x,
-        &x,
-        &x,
-        &x,
-        &x,
-        l,
-        r,
-    )
+    block_of(s, v, t, words, samples, pcm, table, &x, l, r)
 }
 
 // What it answers, and whether a refused one leaves everything as it was.
