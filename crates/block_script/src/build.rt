@@ -74,13 +74,30 @@ fn put_point(w: &mut [u32], velocity: u8, gain: f32)
 }
 
 // A filter more, likewise.
+// Where filter n of a region's stands among its words.
+fn filter_at(n: u32) -> usize
+    requires { ⌜ n < 6 ⌝ }
+    ensures { λ r. ⌜ r ≤ 93 ⌝ }
+{
+    58 + 7 * (n as usize)
+}
+
+// Where band n stands.
+fn band_at(n: u32) -> usize
+    requires { ⌜ n < 6 ⌝ }
+    ensures { λ r. ⌜ r ≤ 130 ⌝ }
+{
+    100 + 6 * (n as usize)
+}
+
 fn add_filter(line: &[u8], w: &mut [u32])
     requires { ⌜ length (now w) ≡ 392 ⌝ }
 {
     let n = w[27];
     if n < 6 {
-        let at = 58 + 7 * (n as usize);
-        put_filter(line, &mut w[at..at + 7]);
+        let at = filter_at(n);
+        let end = at + 7;
+        put_filter(line, &mut w[at..end]);
         w[27] = n + 1;
         return;
     }
@@ -93,8 +110,9 @@ fn add_band(line: &[u8], w: &mut [u32])
 {
     let n = w[28];
     if n < 6 {
-        let at = 100 + 6 * (n as usize);
-        put_band(line, &mut w[at..at + 6]);
+        let at = band_at(n);
+        let end = at + 6;
+        put_band(line, &mut w[at..end]);
         w[28] = n + 1;
         return;
     }
