@@ -104,6 +104,52 @@ fn id_after(d: DeskLine, id: u64) -> u64 {
     }
 }
 
+// A block of these three inputs; `none` stands for each that is not connected.
+fn play_inputs(
+    s: Session,
+    v: SampleVoice,
+    t: BlockTime,
+    words: &[u32],
+    samples: &[u32],
+    pcm: &[f32],
+    table: &[f32],
+    freq: &[f32],
+    gate: &[f32],
+    vel: &[f32],
+    none: &[f32],
+    left: &mut [f32],
+    right: &mut [f32],
+) -> Called {
+    let c = Connected {
+        freq: true,
+        gate: true,
+        vel: true,
+        amp: false,
+        seed: false,
+        bend: false,
+        quality: false,
+    };
+    block(
+        s,
+        v,
+        t,
+        c,
+        words,
+        samples,
+        pcm,
+        table,
+        freq,
+        gate,
+        vel,
+        none,
+        none,
+        none,
+        none,
+        left,
+        right,
+    )
+}
+
 // A block with the gate, the frequency and the velocity as they are throughout, and nothing else connected.
 fn play_line(
     s: Session,
@@ -118,15 +164,6 @@ fn play_line(
         frames: b.frames as usize,
         offset: b.offset,
     };
-    let c = Connected {
-        freq: true,
-        gate: true,
-        vel: true,
-        amp: false,
-        seed: false,
-        bend: false,
-        quality: false,
-    };
     let up: f32 = if b.gate { 1.0 } else { 0.0 };
     let freq = [b.freq; 128];
     let gate = [up; 128];
@@ -134,11 +171,10 @@ fn play_line(
     let none = [0.0f32; 1];
     let mut left = [0.0f32; 128];
     let mut right = [0.0f32; 128];
-    block(
+    play_inputs(
         s,
         v,
         t,
-        c,
         words,
         samples,
         pcm,
@@ -146,9 +182,6 @@ fn play_line(
         &freq,
         &gate,
         &vel,
-        &none,
-        &none,
-        &none,
         &none,
         &mut left,
         &mut right,
