@@ -1,7 +1,7 @@
 // Four frames of a sample by the windowed sinc. The same tap of all four is done side by side, which the machine does in one
 // operation each; every frame's sums are those of `sinc`, in the same order.
 ghost use mathlib.Core.Path.{_≡_};
-ghost use mathlib.Core.Bool.{not, cond};
+ghost use mathlib.Core.Bool.{true, not, cond};
 ghost use Prim.Native.Nat.{_+_, _*_, _≤_, _<_, min};
 ghost use lib.Dec.{T};
 ghost use lib.Ieee.{isNan, nan, lt, le, toUnsigned};
@@ -156,6 +156,23 @@ fn places(span: SincSpan, f: Four, entries: &mut [u32; 320], parts: &mut [f32; 3
         d = d - 1.0;
     }
     end_places(span, f, d, last, entries, parts);
+}
+
+// The same, unless the lists have them already: those of other frames that lie as far behind theirs.
+fn place_unless(
+    placed: bool,
+    span: SincSpan,
+    f: Four,
+    entries: &mut [u32; 320],
+    parts: &mut [f32; 320],
+)
+    requires { ⌜ Inside span × Parts f × (length (now entries) ≡ 320) × (length (now parts) ≡ 320) × ((placed ≡ true) → Rows span f (now entries) (now parts) (2 * span .half)) ⌝ }
+    ensures { λ _. ⌜ Rows span f (now (entries .exit)) (now (parts .exit)) (2 * span .half) × (length (now (entries .exit)) ≡ 320) × (length (now (parts .exit)) ≡ 320) ⌝ }
+{
+    if placed {
+        return;
+    }
+    places(span, f, entries, parts);
 }
 
 // One tap more, in the window.
@@ -564,21 +581,22 @@ fn means(acc: Four, wsum: Four) -> Four
     }
 }
 
-// Four frames: frame i's first tap stands at n, and f is how far it lies behind its frame. What the two lists hold before does
-// not matter; they are lent so that many calls share them.
+// Four frames: frame i's first tap stands at n, and f is how far it lies behind its frame. The two lists are lent so that many
+// calls share them; what they hold before does not matter, unless the places of these taps are said to be there already.
 pub fn sinc_four(
     table: &[f32],
     frames: &[f32],
     span: SincSpan,
     n: Starts,
     f: Four,
+    placed: bool,
     entries: &mut [u32; 320],
     parts: &mut [f32; 320],
 ) -> Four
-    requires { ⌜ (length (now table) ≡ 8194) × Inside span × Parts f × InFrames n (2 * span .half) (now frames) × (length (now entries) ≡ 320) × (length (now parts) ≡ 320) ⌝ }
-    ensures { λ r. ⌜ (r ≡ sincFour (now (table .entry)) (now (frames .entry)) span n f) × (length (now (entries .exit)) ≡ 320) × (length (now (parts .exit)) ≡ 320) ⌝ }
+    requires { ⌜ (length (now table) ≡ 8194) × Inside span × Parts f × InFrames n (2 * span .half) (now frames) × (length (now entries) ≡ 320) × (length (now parts) ≡ 320) × ((placed ≡ true) → Rows span f (now entries) (now parts) (2 * span .half)) ⌝ }
+    ensures { λ r. ⌜ (r ≡ sincFour (now (table .entry)) (now (frames .entry)) span n f) × (length (now (entries .exit)) ≡ 320) × (length (now (parts .exit)) ≡ 320) × Rows span f (now (entries .exit)) (now (parts .exit)) (2 * span .half) ⌝ }
 {
-    places(span, f, entries, parts);
+    place_unless(placed, span, f, entries, parts);
     let z = Four {
         x0: 0.0,
         x1: 0.0,
@@ -609,13 +627,14 @@ pub fn sinc_four_pair(
     span: SincSpan,
     n: Starts,
     f: Four,
+    placed: bool,
     entries: &mut [u32; 320],
     parts: &mut [f32; 320],
 ) -> FourPairs
-    requires { ⌜ (length (now table) ≡ 8194) × Inside span × Parts f × InFrames n (2 * span .half) (now a) × InFrames n (2 * span .half) (now b) × (length (now entries) ≡ 320) × (length (now parts) ≡ 320) ⌝ }
-    ensures { λ r. ⌜ (r .l ≡ sincFour (now (table .entry)) (now (a .entry)) span n f) × (r .r ≡ sincFour (now (table .entry)) (now (b .entry)) span n f) × (length (now (entries .exit)) ≡ 320) × (length (now (parts .exit)) ≡ 320) ⌝ }
+    requires { ⌜ (length (now table) ≡ 8194) × Inside span × Parts f × InFrames n (2 * span .half) (now a) × InFrames n (2 * span .half) (now b) × (length (now entries) ≡ 320) × (length (now parts) ≡ 320) × ((placed ≡ true) → Rows span f (now entries) (now parts) (2 * span .half)) ⌝ }
+    ensures { λ r. ⌜ (r .l ≡ sincFour (now (table .entry)) (now (a .entry)) span n f) × (r .r ≡ sincFour (now (table .entry)) (now (b .entry)) span n f) × (length (now (entries .exit)) ≡ 320) × (length (now (parts .exit)) ≡ 320) × Rows span f (now (entries .exit)) (now (parts .exit)) (2 * span .half) ⌝ }
 {
-    places(span, f, entries, parts);
+    place_unless(placed, span, f, entries, parts);
     let z = Four {
         x0: 0.0,
         x1: 0.0,

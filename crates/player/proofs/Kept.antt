@@ -30,7 +30,7 @@ never t = absurd (true≢false (sym t))
 
 -- ---- a position that tests as one that is not 0 is that one
 -- two fractions of one size and one sign, in the one way that a format writes it
-one-way : (f : Format) (s : Bool) (m n : ℕ) (e d : ℤ) → m * up e * down d ≡ n * up d * down e → T (fits f (fin s m e)) → T (fits f (fin s n d)) → fin s m e ≡ fin s n d
+pub one-way : (f : Format) (s : Bool) (m n : ℕ) (e d : ℤ) → m * up e * down d ≡ n * up d * down e → T (fits f (fin s m e)) → T (fits f (fin s n d)) → fin s m e ≡ fin s n d
 unfolding toBits
 one-way f s m n e d h p q =
     let l = 2 ^ low f in

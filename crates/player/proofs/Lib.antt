@@ -2,6 +2,7 @@ pub mod Behind
 pub mod Fours
 pub mod Kept
 pub mod Pitches
+pub mod Placed
 pub mod Positions
 pub mod Reading
 pub mod Runs

@@ -2,16 +2,17 @@
 use mathlib.Core.Path.{_≡_}
 use mathlib.Core.Bool.{Bool, true}
 use mathlib.Core.List.{List}
-use Prim.Native.Nat.{ℕ, _+_, _≤_, _<_}
+use Prim.Native.Nat.{ℕ, _+_, _*_, _≤_, _<_}
 use lib.Dec.{T}
-use lib.Ieee.{Float, nan, binary64, eq, fits, toUnsigned}
+use lib.Ieee.{Float, nan, binary32, binary64, eq, fits, toUnsigned}
 use lib.ListN.{getD, length}
 use Rattle.interp.specs.Position.{Position}
 use Rattle.interp.specs.Read.{pairAt}
-use Rattle.interp.specs.Four.{Inside}
+use Rattle.interp.specs.Four.{Inside, Parts, Rows}
 use Rattle.interp.specs.declared.Interp.the-variants.{Sinc}
 use Rattle.interp.specs.declared.sinc.SincSpan.{SincSpan}
 use Rattle.interp.specs.declared.sinc.Pair.{Pair}
+use Rattle.interp.specs.declared.four.Four.{Four}
 use Rattle.player.specs.declared.Cold.{Cold}
 use Rattle.player.specs.declared.ahead.Next.{Next}
 use Rattle.player.specs.Source.{Lent}
@@ -45,3 +46,21 @@ pub record Kept (span : SincSpan) (stereo : Bool) (s : Lent) (qs ls rs : List Fl
   pub many-r : length rs ≡ 64
   pub pairs : (i : ℕ) → i < 64 → (p : Float) → Position p → T (fits binary64 p) → T (eq (getD qs i nan) p)
       → _≡_ {A = Pair} (record { l = getD ls i nan; r = getD rs i nan }) (pairAt Sinc (s .a) (s .b) stereo p (s .table) span)
+
+-- each of four tests as its other
+pub record Alike (f g : Four) : Type 0 where
+  pub x0 : T (eq (f .x0) (g .x0))
+  pub x1 : T (eq (f .x1) (g .x1))
+  pub x2 : T (eq (f .x2) (g .x2))
+  pub x3 : T (eq (f .x3) (g .x3))
+
+-- as a single holds them
+pub record Singles (f : Four) : Type 0 where
+  pub x0 : T (fits binary32 (f .x0))
+  pub x1 : T (fits binary32 (f .x1))
+  pub x2 : T (fits binary32 (f .x2))
+  pub x3 : T (fits binary32 (f .x3))
+
+-- The lists have the places of the taps of every four parts that test as the last.
+abbrev pub Placed : SincSpan → Four → List ℕ → List Float → Type 0
+Placed span last es ps = (f : Four) → Parts f → Singles f → Alike f last → Rows span f es ps (2 * span .half)

@@ -12,7 +12,7 @@ ghost use Rattle.interp.specs.Position.{Position};
 ghost use Rattle.interp.specs.declared.Interp.the-variants.{Sinc};
 ghost use Rattle.player.specs.Bounds.{Step, LoopOk, ColdOk};
 ghost use Rattle.player.specs.Source.{Lent};
-ghost use Rattle.player.specs.Ahead.{Suited, Inner, Positions, AllInner, Kept};
+ghost use Rattle.player.specs.Ahead.{Suited, Inner, Positions, AllInner, Kept, Alike, Placed};
 use super::Cold;
 use super::Hot;
 use super::MaybeLoop;
@@ -34,6 +34,14 @@ pub struct Next {
     pub p2: f64,
     pub p3: f64,
 }
+
+// No part is negative, so that none tests as these.
+const NO_PARTS: Four = Four {
+    x0: -1.0,
+    x1: -1.0,
+    x2: -1.0,
+    x3: -1.0,
+};
 
 // Whether every tap of a kernel but the first and the last is in the window, as reading four at a time asks.
 fn reaches(half: u16, fc: f32) -> bool
@@ -166,7 +174,22 @@ fn keep_four(
     keep(qs, ls, rs, at + 3, x.p3, l.x3, r.x3);
 }
 
-// The frames of four positions are read and kept, from place `at` on.
+// Whether four parts test as four others.
+fn same(f: Four, g: Four) -> bool
+    ensures { λ r. ⌜ ((r ≡ true) → Alike f g) ⌝ }
+{
+    if f.x0 == g.x0 {
+        if f.x1 == g.x1 {
+            if f.x2 == g.x2 {
+                return f.x3 == g.x3;
+            }
+        }
+    }
+    false
+}
+
+// The frames of four positions are read and kept, from place `at` on. Where they lie as far behind their frames as the last
+// four did, at steps such as 2.0 or 0.5, the places of their taps are there already.
 fn four(
     x: Next,
     cold: Cold,
@@ -179,9 +202,10 @@ fn four(
     ls: &mut [f32; 64],
     rs: &mut [f32; 64],
     at: usize,
-)
-    requires { ⌜ Positions x × AllInner x (cold .span .half) (length (now a)) × Suited cold (now a) (now b) × (at + 4 ≤ 64) × (length (now table) ≡ 8194) × (length (now entries) ≡ 320) × (length (now parts) ≡ 320) × Kept (cold .span) (cold .stereo) (record { a = now a; b = now b; table = now table }) (now qs) (now ls) (now rs) ⌝ }
-    ensures { λ _. ⌜ (length (now (entries .exit)) ≡ 320) × (length (now (parts .exit)) ≡ 320) × Kept (cold .span) (cold .stereo) (record { a = now (a .entry); b = now (b .entry); table = now (table .entry) }) (now (qs .exit)) (now (ls .exit)) (now (rs .exit)) ⌝ }
+    last: Four,
+) -> Four
+    requires { ⌜ Positions x × AllInner x (cold .span .half) (length (now a)) × Suited cold (now a) (now b) × (at + 4 ≤ 64) × (length (now table) ≡ 8194) × (length (now entries) ≡ 320) × (length (now parts) ≡ 320) × Kept (cold .span) (cold .stereo) (record { a = now a; b = now b; table = now table }) (now qs) (now ls) (now rs) × Placed (cold .span) last (now entries) (now parts) ⌝ }
+    ensures { λ f. ⌜ (length (now (entries .exit)) ≡ 320) × (length (now (parts .exit)) ≡ 320) × Kept (cold .span) (cold .stereo) (record { a = now (a .entry); b = now (b .entry); table = now (table .entry) }) (now (qs .exit)) (now (ls .exit)) (now (rs .exit)) × Placed (cold .span) f (now (entries .exit)) (now (parts .exit)) ⌝ }
 {
     let span = cold.span;
     let h = span.half as usize;
@@ -197,13 +221,14 @@ fn four(
         x2: fraction(x.p2),
         x3: fraction(x.p3),
     };
+    let placed = same(f, last);
     if cold.stereo {
-        let v = sinc_four_pair(table, a, b, span, n, f, entries, parts);
+        let v = sinc_four_pair(table, a, b, span, n, f, placed, entries, parts);
         let l = v.l;
         let r = v.r;
         keep_four(qs, ls, rs, at, x, l, r);
     } else {
-        let l = sinc_four(table, a, span, n, f, entries, parts);
+        let l = sinc_four(table, a, span, n, f, placed, entries, parts);
         let r = Four {
             x0: 0.0,
             x1: 0.0,
@@ -212,6 +237,7 @@ fn four(
         };
         keep_four(qs, ls, rs, at, x, l, r);
     }
+    f
 }
 
 // The next frames of a player are kept: 64, or as many fours as m frames have, as far as they are inner ones. A release on the
@@ -245,13 +271,14 @@ pub fn ahead(
     let mut p = place(lp, hot.pos);
     let h = cold.span.half as usize;
     let mut at = 0usize;
+    let mut last = NO_PARTS;
     while at < 64 {
         if m < at + 4 {
             return;
         }
         let x = nexts(lp, p, cold.step);
         if inside(x, h, a.len()) {
-            four(
+            last = four(
                 x,
                 cold,
                 a,
@@ -263,6 +290,7 @@ pub fn ahead(
                 ls,
                 rs,
                 at,
+                last,
             );
         } else {
             return;

@@ -9,13 +9,13 @@ use Rattle.interp.proofs.four.sinc_four.Statement.{statement}
 use Rattle.interp.proofs.four.sinc_four.Tie as tie
 
 abbrev Inv-loop : tie.InvT-loop
-Inv-loop table frames n entries parts last s₀ h j₀ s j = (1 ≤ j) × (j ≤ h) × ((span : SincSpan) (f : Four) → Rows span f entries parts (2 * span .half) → InFrames n (2 * span .half) frames → h ≤ span .half → Tapped table frames span n f 1 s₀ → Tapped table frames span n f (2 * j - 1) s)
+Inv-loop table frames n placed entries parts last s₀ h j₀ s j = (1 ≤ j) × (j ≤ h) × ((span : SincSpan) (f : Four) → Rows span f entries parts (2 * span .half) → InFrames n (2 * span .half) frames → h ≤ span .half → Tapped table frames span n f 1 s₀ → Tapped table frames span n f (2 * j - 1) s)
 
 abbrev μ-loop : tie.MeasureT-loop
-μ-loop table frames n entries parts last s₀ h j₀ s j = h - j
+μ-loop table frames n placed entries parts last s₀ h j₀ s j = h - j
 
-places-requires : tie.Need-places-requires Inv-loop μ-loop
-places-requires c κs = let p = c .before .before .before .before .pre in (p .1, p .2, p .4, p .5)
+place-unless-requires : tie.Need-place-unless-requires Inv-loop μ-loop
+place-unless-requires c κs = let p = c .before .before .before .before .pre in (p .1, p .2, p .4, p .5, p .6)
 
 cast-last : tie.Need-cast-last Inv-loop μ-loop
 cast-last c = omega arith
@@ -46,14 +46,14 @@ row-requires c κs =
     let p = c .before .before .before .before .before .before .before .before .before .before .before .before .before .before .pre in
     let l = c .before .before .before .loop .inv .0 in
     let t = c .before .before .loop-test .taken in
-    (p .0, omega (arith, t, p .1 .most), in-frames _ _ _ _ (omega (arith, l, t)) (p .3), low-row _ _ _ _ _ (p .1) (p .2) (omega (arith, l)) (omega (arith, l, t)) (c .before .before .before .before .before .before .before .before .before .places .ensures .0 _ (omega (arith, l, t))))
+    (p .0, omega (arith, t, p .1 .most), in-frames _ _ _ _ (omega (arith, l, t)) (p .3), low-row _ _ _ _ _ (p .1) (p .2) (omega (arith, l)) (omega (arith, l, t)) (c .before .before .before .before .before .before .before .before .before .place-unless .ensures .0 _ (omega (arith, l, t))))
 
 row-requires-2 : tie.Need-row-requires-2 Inv-loop μ-loop
 row-requires-2 c κs =
     let p = c .before .before .before .before .before .before .before .before .before .before .before .before .before .before .before .before .before .pre in
     let l = c .before .before .before .before .before .before .loop .inv .0 in
     let t = c .before .before .before .before .before .loop-test .taken in
-    (p .0, omega (arith, t, p .1 .most), in-frames _ _ _ _ (omega (arith, t)) (p .3), low-row _ _ _ _ _ (p .1) (p .2) (omega (arith, l)) (omega (arith, t)) (c .before .before .before .before .before .before .before .before .before .before .before .before .places .ensures .0 _ (omega (arith, t))))
+    (p .0, omega (arith, t, p .1 .most), in-frames _ _ _ _ (omega (arith, t)) (p .3), low-row _ _ _ _ _ (p .1) (p .2) (omega (arith, l)) (omega (arith, t)) (c .before .before .before .before .before .before .before .before .before .before .before .before .place-unless .ensures .0 _ (omega (arith, t))))
 
 add-j : tie.Need-add-j Inv-loop μ-loop
 add-j c = omega (arith, c .before .before .before .before .before .before .loop-test .taken, c .before .before .before .before .before .before .before .before .before .before .before .before .before .before .before .before .before .before .pre .1 .most)
@@ -83,13 +83,13 @@ means-requires c κs = tt
 returns : tie.Need-returns Inv-loop μ-loop
 returns c =
     let p = c .before .before .before .before .before .before .before .before .before .before .before .before .before .before .before .before .before .before .pre in
-    let z = c .before .before .before .before .before .before .before .before .before .before .before .before .before .places .ensures in
+    let z = c .before .before .before .before .before .before .before .before .before .before .before .before .before .place-unless .ensures in
     let r = z .0 in
     let l = c .before .before .before .before .before .before .before .loop .inv in
     let one = tapped-row _ _ _ _ _ _ _ 0 _ _ (r 0 (omega (arith, p .1 .least))) (p .3) (omega (arith, p .1 .least)) (c .before .before .before .before .before .before .before .before .before .end-row .ensures) (tapped-none _ _ _ _ _) in
     let g = c .before .before .before .before .before .before .loop-test .left in
     let t = l .2 _ _ r (p .3) (omega arith) one in
-    (c .means .ensures ∙ all-taps _ _ _ _ _ _ (tapped-at _ _ _ _ _ _ _ _ (omega (arith, p .1 .least)) (tapped-row _ _ _ _ _ _ _ _ _ _ (r _ (omega (arith, p .1 .least))) (p .3) (omega (arith, p .1 .least)) (c .before .before .before .end-row2 .ensures) (tapped-at _ _ _ _ _ _ _ _ (omega (arith, l .1, g)) t))), z .1, z .2)
+    (c .means .ensures ∙ all-taps _ _ _ _ _ _ (tapped-at _ _ _ _ _ _ _ _ (omega (arith, p .1 .least)) (tapped-row _ _ _ _ _ _ _ _ _ _ (r _ (omega (arith, p .1 .least))) (p .3) (omega (arith, p .1 .least)) (c .before .before .before .end-row2 .ensures) (tapped-at _ _ _ _ _ _ _ _ (omega (arith, l .1, g)) t))), z .1, z .2, r)
 
 pub sinc-four-spec : {M : Type 1} → statement M
 sinc-four-spec =
@@ -97,7 +97,7 @@ sinc-four-spec =
     (tie.spec
     Inv-loop
     μ-loop
-    places-requires
+    place-unless-requires
     cast-last
     mul-last
     sub-last

@@ -9,13 +9,13 @@ use Rattle.interp.proofs.four.sinc_four_pair.Statement.{statement}
 use Rattle.interp.proofs.four.sinc_four_pair.Tie as tie
 
 abbrev Inv-loop : tie.InvT-loop
-Inv-loop table a b n entries parts last s₀ h j₀ s j = (1 ≤ j) × (j ≤ h) × ((span : SincSpan) (f : Four) → Rows span f entries parts (2 * span .half) → InFrames n (2 * span .half) a → InFrames n (2 * span .half) b → h ≤ span .half → Tapped table a span n f 1 (leftLanes s₀) × Tapped table b span n f 1 (rightLanes s₀) → Tapped table a span n f (2 * j - 1) (leftLanes s) × Tapped table b span n f (2 * j - 1) (rightLanes s))
+Inv-loop table a b n placed entries parts last s₀ h j₀ s j = (1 ≤ j) × (j ≤ h) × ((span : SincSpan) (f : Four) → Rows span f entries parts (2 * span .half) → InFrames n (2 * span .half) a → InFrames n (2 * span .half) b → h ≤ span .half → Tapped table a span n f 1 (leftLanes s₀) × Tapped table b span n f 1 (rightLanes s₀) → Tapped table a span n f (2 * j - 1) (leftLanes s) × Tapped table b span n f (2 * j - 1) (rightLanes s))
 
 abbrev μ-loop : tie.MeasureT-loop
-μ-loop table a b n entries parts last s₀ h j₀ s j = h - j
+μ-loop table a b n placed entries parts last s₀ h j₀ s j = h - j
 
-places-requires : tie.Need-places-requires Inv-loop μ-loop
-places-requires c κs = let p = c .before .before .before .before .before .pre in (p .1, p .2, p .5, p .6)
+place-unless-requires : tie.Need-place-unless-requires Inv-loop μ-loop
+place-unless-requires c κs = let p = c .before .before .before .before .before .pre in (p .1, p .2, p .5, p .6, p .7)
 
 cast-last : tie.Need-cast-last Inv-loop μ-loop
 cast-last c = omega arith
@@ -46,14 +46,14 @@ row-pair-requires c κs =
     let p = c .before .before .before .before .before .before .before .before .before .before .before .before .before .before .before .pre in
     let l = c .before .before .before .loop .inv .0 in
     let t = c .before .before .loop-test .taken in
-    (p .0, omega (arith, t, p .1 .most), in-frames _ _ _ _ (omega (arith, l, t)) (p .3), in-frames _ _ _ _ (omega (arith, l, t)) (p .4), low-row _ _ _ _ _ (p .1) (p .2) (omega (arith, l)) (omega (arith, l, t)) (c .before .before .before .before .before .before .before .before .before .places .ensures .0 _ (omega (arith, l, t))))
+    (p .0, omega (arith, t, p .1 .most), in-frames _ _ _ _ (omega (arith, l, t)) (p .3), in-frames _ _ _ _ (omega (arith, l, t)) (p .4), low-row _ _ _ _ _ (p .1) (p .2) (omega (arith, l)) (omega (arith, l, t)) (c .before .before .before .before .before .before .before .before .before .place-unless .ensures .0 _ (omega (arith, l, t))))
 
 row-pair-requires-2 : tie.Need-row-pair-requires-2 Inv-loop μ-loop
 row-pair-requires-2 c κs =
     let p = c .before .before .before .before .before .before .before .before .before .before .before .before .before .before .before .before .before .before .pre in
     let l = c .before .before .before .before .before .before .loop .inv .0 in
     let t = c .before .before .before .before .before .loop-test .taken in
-    (p .0, omega (arith, t, p .1 .most), in-frames _ _ _ _ (omega (arith, t)) (p .3), in-frames _ _ _ _ (omega (arith, t)) (p .4), low-row _ _ _ _ _ (p .1) (p .2) (omega (arith, l)) (omega (arith, t)) (c .before .before .before .before .before .before .before .before .before .before .before .before .places .ensures .0 _ (omega (arith, t))))
+    (p .0, omega (arith, t, p .1 .most), in-frames _ _ _ _ (omega (arith, t)) (p .3), in-frames _ _ _ _ (omega (arith, t)) (p .4), low-row _ _ _ _ _ (p .1) (p .2) (omega (arith, l)) (omega (arith, t)) (c .before .before .before .before .before .before .before .before .before .before .before .before .place-unless .ensures .0 _ (omega (arith, t))))
 
 add-j : tie.Need-add-j Inv-loop μ-loop
 add-j c = omega (arith, c .before .before .before .before .before .before .loop-test .taken, c .before .before .before .before .before .before .before .before .before .before .before .before .before .before .before .before .before .before .before .pre .1 .most)
@@ -91,12 +91,12 @@ means-requires-2 c κs = tt
 returns : tie.Need-returns Inv-loop μ-loop
 returns c =
     let p = c .before .before .before .before .before .before .before .before .before .before .before .before .before .before .before .before .before .before .before .before .before .pre in
-    let z = c .before .before .before .before .before .before .before .before .before .before .before .before .before .before .before .places .ensures in
+    let z = c .before .before .before .before .before .before .before .before .before .before .before .before .before .before .before .place-unless .ensures in
     let r = z .0 in
     let l = c .before .before .before .before .before .before .before .before .before .loop .inv in
     let g = c .before .before .before .before .before .before .before .before .loop-test .left in
     let t = l .2 _ _ r (p .3) (p .4) (omega arith) (tapped-row _ _ _ _ _ _ _ 0 _ _ (r 0 (omega (arith, p .1 .least))) (p .3) (omega (arith, p .1 .least)) (c .before .before .before .before .before .before .before .before .before .before .before .end-row-pair .ensures .0) (tapped-none _ _ _ _ _), tapped-row _ _ _ _ _ _ _ 0 _ _ (r 0 (omega (arith, p .1 .least))) (p .4) (omega (arith, p .1 .least)) (c .before .before .before .before .before .before .before .before .before .before .before .end-row-pair .ensures .1) (tapped-none _ _ _ _ _)) in
-    (c .before .means .ensures ∙ all-taps _ _ _ _ _ _ (tapped-at _ _ _ _ _ _ _ _ (omega (arith, p .1 .least)) (tapped-row _ _ _ _ _ _ _ _ _ _ (r _ (omega (arith, p .1 .least))) (p .3) (omega (arith, p .1 .least)) (c .before .before .before .before .before .end-row-pair2 .ensures .0) (tapped-at _ _ _ _ _ _ _ _ (omega (arith, l .1, g)) (t .0)))), c .means2 .ensures ∙ all-taps _ _ _ _ _ _ (tapped-at _ _ _ _ _ _ _ _ (omega (arith, p .1 .least)) (tapped-row _ _ _ _ _ _ _ _ _ _ (r _ (omega (arith, p .1 .least))) (p .4) (omega (arith, p .1 .least)) (c .before .before .before .before .before .end-row-pair2 .ensures .1) (tapped-at _ _ _ _ _ _ _ _ (omega (arith, l .1, g)) (t .1)))), z .1, z .2)
+    (c .before .means .ensures ∙ all-taps _ _ _ _ _ _ (tapped-at _ _ _ _ _ _ _ _ (omega (arith, p .1 .least)) (tapped-row _ _ _ _ _ _ _ _ _ _ (r _ (omega (arith, p .1 .least))) (p .3) (omega (arith, p .1 .least)) (c .before .before .before .before .before .end-row-pair2 .ensures .0) (tapped-at _ _ _ _ _ _ _ _ (omega (arith, l .1, g)) (t .0)))), c .means2 .ensures ∙ all-taps _ _ _ _ _ _ (tapped-at _ _ _ _ _ _ _ _ (omega (arith, p .1 .least)) (tapped-row _ _ _ _ _ _ _ _ _ _ (r _ (omega (arith, p .1 .least))) (p .4) (omega (arith, p .1 .least)) (c .before .before .before .before .before .end-row-pair2 .ensures .1) (tapped-at _ _ _ _ _ _ _ _ (omega (arith, l .1, g)) (t .1)))), z .1, z .2, r)
 
 pub sinc-four-pair-spec : {M : Type 1} → statement M
 sinc-four-pair-spec =
@@ -104,7 +104,7 @@ sinc-four-pair-spec =
     (tie.spec
     Inv-loop
     μ-loop
-    places-requires
+    place-unless-requires
     cast-last
     mul-last
     sub-last

@@ -4,16 +4,17 @@ use native.Mathlib.Omega.{arith}
 use lib.ListN.{length}
 use Rattle.interp.specs.Position.{Position}
 use Rattle.player.specs.Bounds.{LoopOk}
-use Rattle.player.specs.Ahead.{Kept}
+use Rattle.player.specs.Ahead.{Kept, Placed}
+use Rattle.player.proofs.Placed.{none-placed}
 use Rattle.player.proofs.Positions.{current-ok}
 use Rattle.player.proofs.ahead.ahead.Statement.{statement}
 use Rattle.player.proofs.ahead.ahead.Tie as tie
 
 abbrev Inv-loop : tie.InvT-loop
-Inv-loop cold a b table m qs₀ ls₀ rs₀ entries₀ parts₀ lp p₀ h at₀ qs ls rs entries parts p at = (at ≤ 64) × (at % 4 ≡ 0) × Position p × (length entries ≡ 320) × (length parts ≡ 320) × Kept (cold .span) (cold .stereo) (record { a = a; b = b; table = table }) qs ls rs
+Inv-loop cold a b table m qs₀ ls₀ rs₀ entries₀ parts₀ lp p₀ h at₀ last₀ qs ls rs entries parts p at last = (at ≤ 64) × (at % 4 ≡ 0) × Position p × (length entries ≡ 320) × (length parts ≡ 320) × Kept (cold .span) (cold .stereo) (record { a = a; b = b; table = table }) qs ls rs × Placed (cold .span) last entries parts
 
 abbrev μ-loop : tie.MeasureT-loop
-μ-loop cold a b table m qs₀ ls₀ rs₀ entries₀ parts₀ lp p₀ h at₀ qs ls rs entries parts p at = 64 - at
+μ-loop cold a b table m qs₀ ls₀ rs₀ entries₀ parts₀ lp p₀ h at₀ last₀ qs ls rs entries parts p at last = 64 - at
 
 returns : tie.Need-returns Inv-loop μ-loop
 returns c = c .before .before .before .before .pre .4
@@ -31,7 +32,7 @@ cast-h : tie.Need-cast-h Inv-loop μ-loop
 cast-h c = omega (arith, c .before .before .before .before .before .before .before .before .before .before .before .pre .0 .half)
 
 loop-holds : tie.Need-loop-holds Inv-loop μ-loop
-loop-holds c = (omega arith, refl, c .before .place .ensures .1, refl, refl, c .before .before .before .before .before .before .before .before .before .before .before .pre .4)
+loop-holds c = (omega arith, refl, c .before .place .ensures .1, refl, refl, c .before .before .before .before .before .before .before .before .before .before .before .pre .4, none-placed _ _ _)
 
 add-if3 : tie.Need-add-if3 Inv-loop μ-loop
 add-if3 c = omega (arith, c .loop-test .taken)
@@ -46,7 +47,7 @@ inside-requires : tie.Need-inside-requires Inv-loop μ-loop
 inside-requires c κs = (c .nexts .ensures, c .before .before .before .before .before .before .before .before .before .before .before .before .before .before .before .pre .0 .half)
 
 four-requires : tie.Need-four-requires Inv-loop μ-loop
-four-requires c κs = (c .before .before .before .before .before .before .before .nexts .ensures, c .before .before .before .before .before .before .inside .ensures (c .before .before .before .before .before .if4 .taken), c .before .before .before .before .before .before .before .before .before .before .before .before .before .before .before .before .before .before .before .before .before .before .pre .3, omega (arith, c .before .before .before .before .before .before .before .before .before .loop-test .taken, c .before .before .before .before .before .before .before .before .before .before .loop .inv .1), c .before .before .before .before .before .before .before .before .before .before .before .before .before .before .before .before .before .before .before .before .before .before .pre .2, c .before .before .before .before .before .before .before .before .before .before .loop .inv .3, c .before .before .before .before .before .before .before .before .before .before .loop .inv .4, c .before .before .before .before .before .before .before .before .before .before .loop .inv .5)
+four-requires c κs = (c .before .before .before .before .before .before .before .nexts .ensures, c .before .before .before .before .before .before .inside .ensures (c .before .before .before .before .before .if4 .taken), c .before .before .before .before .before .before .before .before .before .before .before .before .before .before .before .before .before .before .before .before .before .before .pre .3, omega (arith, c .before .before .before .before .before .before .before .before .before .loop-test .taken, c .before .before .before .before .before .before .before .before .before .before .loop .inv .1), c .before .before .before .before .before .before .before .before .before .before .before .before .before .before .before .before .before .before .before .before .before .before .pre .2, c .before .before .before .before .before .before .before .before .before .before .loop .inv .3, c .before .before .before .before .before .before .before .before .before .before .loop .inv .4, c .before .before .before .before .before .before .before .before .before .before .loop .inv .5, c .before .before .before .before .before .before .before .before .before .before .loop .inv .6)
 
 returns-4 : tie.Need-returns-4 Inv-loop μ-loop
 returns-4 c = c .before .before .before .before .before .loop .inv .5
@@ -61,7 +62,7 @@ loop-less : tie.Need-loop-less Inv-loop μ-loop
 loop-less c = omega (arith, c .before .before .before .before .before .before .before .before .before .before .before .loop-test .taken)
 
 loop-again : tie.Need-loop-again Inv-loop μ-loop
-loop-again c = (omega (arith, c .before .before .before .before .before .before .before .before .before .before .before .loop-test .taken, c .before .before .before .before .before .before .before .before .before .before .before .before .loop .inv .1), omega (arith, c .before .before .before .before .before .before .before .before .before .before .before .before .loop .inv .1), c .after .ensures, c .before .four .ensures .0, c .before .four .ensures .1, c .before .four .ensures .2)
+loop-again c = (omega (arith, c .before .before .before .before .before .before .before .before .before .before .before .loop-test .taken, c .before .before .before .before .before .before .before .before .before .before .before .before .loop .inv .1), omega (arith, c .before .before .before .before .before .before .before .before .before .before .before .before .loop .inv .1), c .after .ensures, c .before .four .ensures .0, c .before .four .ensures .1, c .before .four .ensures .2, c .before .four .ensures .3)
 
 returns-5 : tie.Need-returns-5 Inv-loop μ-loop
 returns-5 c = c .before .loop .inv .5
