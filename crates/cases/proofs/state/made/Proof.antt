@@ -1,8 +1,8 @@
 use Prim.Native.Nat.{_-_, _≤_}
 use native.Mathlib.Omega.{arith}
 use borrow.Author.Needs.{needs}
-use Rattle.voice_cases.proofs.state.made.Statement.{statement}
-use Rattle.voice_cases.proofs.state.made.Tie as tie
+use Rattle.cases.proofs.state.made.Statement.{statement}
+use Rattle.cases.proofs.state.made.Tie as tie
 
 abbrev Inv-loop : tie.InvT-loop
 Inv-loop n p s₀ i₀ s i = i ≤ n

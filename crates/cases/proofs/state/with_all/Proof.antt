@@ -1,8 +1,8 @@
 use Prim.Native.Nat.{_-_, _≤_}
 use native.Mathlib.Omega.{arith}
 use borrow.Author.Needs.{needs}
-use Rattle.voice_cases.proofs.state.with_all.Statement.{statement}
-use Rattle.voice_cases.proofs.state.with_all.Tie as tie
+use Rattle.cases.proofs.state.with_all.Statement.{statement}
+use Rattle.cases.proofs.state.with_all.Tie as tie
 
 abbrev Inv-loop : tie.InvT-loop
 Inv-loop t₀ id₀ t id = id ≤ 17

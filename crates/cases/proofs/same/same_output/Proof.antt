@@ -2,8 +2,8 @@ use Prim.Native.Nat.{_-_, _≤_}
 use lib.ListN.{length}
 use native.Mathlib.Omega.{arith}
 use borrow.Author.Needs.{needs}
-use Rattle.voice_cases.proofs.same.same_output.Statement.{statement}
-use Rattle.voice_cases.proofs.same.same_output.Tie as tie
+use Rattle.cases.proofs.same.same_output.Statement.{statement}
+use Rattle.cases.proofs.same.same_output.Tie as tie
 
 abbrev Inv-loop : tie.InvT-loop
 Inv-loop a b i₀ i = i ≤ length a

@@ -1,8 +1,8 @@
 use Prim.Native.Nat.{_-_, _≤_}
 use native.Mathlib.Omega.{arith}
 use borrow.Author.Needs.{needs}
-use Rattle.voice_cases.proofs.same.same_shape.Statement.{statement}
-use Rattle.voice_cases.proofs.same.same_shape.Tie as tie
+use Rattle.cases.proofs.same.same_shape.Statement.{statement}
+use Rattle.cases.proofs.same.same_shape.Tie as tie
 
 abbrev Inv-loop : tie.InvT-loop
 Inv-loop xs ys i₀ i = i ≤ 7

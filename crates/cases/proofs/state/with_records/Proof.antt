@@ -1,8 +1,8 @@
 use Prim.Native.Nat.{_-_, _≤_}
 use native.Mathlib.Omega.{arith}
 use borrow.Author.Needs.{needs}
-use Rattle.voice_cases.proofs.state.with_records.Statement.{statement}
-use Rattle.voice_cases.proofs.state.with_records.Tie as tie
+use Rattle.cases.proofs.state.with_records.Statement.{statement}
+use Rattle.cases.proofs.state.with_records.Tie as tie
 
 abbrev Inv-loop : tie.InvT-loop
 Inv-loop voice n t₀ k₀ t k = k ≤ n

@@ -1,8 +1,8 @@
 use Prim.Native.Nat.{_-_, _≤_}
 use native.Mathlib.Omega.{arith}
 use borrow.Author.Needs.{needs}
-use Rattle.voice_cases.proofs.same.same_sequences.Statement.{statement}
-use Rattle.voice_cases.proofs.same.same_sequences.Tie as tie
+use Rattle.cases.proofs.same.same_sequences.Statement.{statement}
+use Rattle.cases.proofs.same.same_sequences.Tie as tie
 
 abbrev Inv-loop : tie.InvT-loop
 Inv-loop a b i₀ i = i ≤ 256
