@@ -4,8 +4,13 @@ ghost use lib.ListN.{length};
 ghost use Rattle.voice.specs.Calls.{numberOf};
 use block::BlockTime;
 use block::Connected;
+use block_parts::call::ASK;
+use block_parts::call::BLOCK;
+use block_parts::call::CLOSE;
+use block_parts::call::Call;
+use block_parts::call::RESET;
+use block_parts::call::VOICE;
 use events::SampleVoice;
-use lines::block::Line;
 use program::bind::BoundProgram;
 use session::Session;
 use voice::Answer;
@@ -16,89 +21,12 @@ use voice::is_finished;
 use voice::make;
 use voice::reset;
 
-// What a line asks for once there is a program.
-pub const NONE: u32 = 0;
-
-pub const INPUT: u32 = 1;
-
-pub const VOICE: u32 = 2;
-
-pub const BLOCK: u32 = 3;
-
-pub const ASK: u32 = 4;
-
-pub const RESET: u32 = 5;
-
-pub const CLOSE: u32 = 6;
-
-// That, the voice, and what is told with it.
-pub struct Call {
-    pub kind: u32,
-    pub voice: u64,
-    pub rate: f32,
-    pub offset: u64,
-    pub frames: u32,
-}
-
 // 01's number of an answer, 0 where the call is done; whether the voice is finished; session and voice as they are left.
 pub struct Did {
     pub number: u64,
     pub finished: bool,
     pub session: Session,
     pub voice: SampleVoice,
-}
-
-fn plain(kind: u32, voice: u64) -> Call {
-    Call {
-        kind,
-        voice,
-        rate: 0.0,
-        offset: 0,
-        frames: 0,
-    }
-}
-
-// A new voice.
-pub fn voice_call(rate: f32) -> Call {
-    Call {
-        kind: VOICE,
-        voice: 0,
-        rate,
-        offset: 0,
-        frames: 0,
-    }
-}
-
-pub fn call_of(d: Line) -> Call {
-    match d {
-        Line::Voice { rate } => voice_call(rate),
-        Line::Block(b) => Call {
-            kind: BLOCK,
-            voice: b.voice,
-            rate: 0.0,
-            offset: b.offset,
-            frames: b.frames,
-        },
-        Line::Ask(id) => plain(ASK, id),
-        Line::Reset(id) => plain(RESET, id),
-        Line::Close(id) => plain(CLOSE, id),
-        Line::Connect {
-            input: _,
-            frame: _,
-            value: _,
-        } => plain(INPUT, 0),
-        Line::Disconnect { input: _ } => plain(INPUT, 0),
-        Line::Unreadable => plain(NONE, 0),
-        Line::Entry { index: _, value: _ } => plain(NONE, 0),
-        Line::Sample(_) => plain(NONE, 0),
-        Line::Region => plain(NONE, 0),
-        Line::Point {
-            velocity: _,
-            gain: _,
-        } => plain(NONE, 0),
-        Line::Filter => plain(NONE, 0),
-        Line::Band => plain(NONE, 0),
-    }
 }
 
 fn number_of(a: Answer) -> u64
@@ -237,25 +165,6 @@ pub fn do_call(
         return close_call(s, v);
     }
     result(0, false, s, v)
-}
-
-// Whether the line counts as a step.
-pub fn is_step(c: Call) -> bool {
-    BLOCK <= c.kind
-}
-
-// The id at a line's place after it.
-pub fn id_after(c: Call, number: u64, was: u64, made: u64) -> u64 {
-    if number != 0 {
-        return was;
-    }
-    if c.kind == CLOSE {
-        return 0;
-    }
-    if c.kind == VOICE {
-        return made;
-    }
-    was
 }
 
 // A voice that fills a place before its first use.

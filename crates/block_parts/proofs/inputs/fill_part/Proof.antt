@@ -2,8 +2,8 @@ use borrow.Author.Needs.{needs}
 use lib.ListN.{length}
 use mathlib.Core.Path.{_≡_}
 use Prim.Native.Nat.{_-_, _≤_}
-use Rattle.block_script.proofs.inputs.fill_part.Statement.{statement}
-use Rattle.block_script.proofs.inputs.fill_part.Tie as tie
+use Rattle.block_parts.proofs.inputs.fill_part.Statement.{statement}
+use Rattle.block_parts.proofs.inputs.fill_part.Tie as tie
 
 abbrev Inv-loop : tie.InvT-loop
 Inv-loop part₀ value i₀ part i = (length part ≡ length part₀) × (i ≤ length part₀)

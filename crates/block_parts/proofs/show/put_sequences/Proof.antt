@@ -2,8 +2,8 @@ use borrow.Author.Needs.{needs}
 use lib.ListN.{length}
 use mathlib.Core.Path.{_≡_}
 use Prim.Native.Nat.{_-_, _≤_}
-use Rattle.block_script.proofs.show.put_sequences.Statement.{statement}
-use Rattle.block_script.proofs.show.put_sequences.Tie as tie
+use Rattle.block_parts.proofs.show.put_sequences.Statement.{statement}
+use Rattle.block_parts.proofs.show.put_sequences.Tie as tie
 
 abbrev Inv-loop : tie.InvT-loop
 Inv-loop out₀ at step regions counters flags k₀ i₀ out k i = (length out ≡ length out₀) × (i ≤ 256)

@@ -3,7 +3,7 @@
 ghost use Prim.Native.Nat.{_≤_, _<_, _+_};
 ghost use mathlib.Core.Path.{_≡_};
 ghost use lib.ListN.{length};
-ghost use Rattle.block_script.specs.Made.{MadeOk};
+ghost use Rattle.block_parts.specs.Made.{MadeOk};
 use exact::order::bits_f32;
 use exact::random::splitmix64;
 use lines::block::Line;

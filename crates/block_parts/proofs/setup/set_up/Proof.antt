@@ -1,10 +1,10 @@
 use borrow.Author.Needs.{needs}
-use Rattle.block_script.specs.Made.{MadeOk}
+use Rattle.block_parts.specs.Made.{MadeOk}
 use lib.ListN.{length}
 use mathlib.Core.Path.{_≡_}
 use Prim.Native.Nat.{_-_, _≤_}
-use Rattle.block_script.proofs.setup.set_up.Statement.{statement}
-use Rattle.block_script.proofs.setup.set_up.Tie as tie
+use Rattle.block_parts.proofs.setup.set_up.Statement.{statement}
+use Rattle.block_parts.proofs.setup.set_up.Tie as tie
 
 abbrev Inv-loop : tie.InvT-loop
 Inv-loop buf₀ words₀ samples₀ pcm₀ table₀ inputs₀ u₀ buf words samples pcm table inputs u = (length buf ≡ length buf₀) × (length words ≡ length words₀) × (length samples ≡ length samples₀) × (length pcm ≡ length pcm₀) × (length table ≡ length table₀) × (length inputs ≡ length inputs₀) × MadeOk (u .made)

@@ -1,8 +1,8 @@
 // What is printed after a step.
-use super::calls::ASK;
-use super::calls::BLOCK;
-use super::calls::Call;
-use super::calls::RESET;
+use super::call::ASK;
+use super::call::BLOCK;
+use super::call::Call;
+use super::call::RESET;
 use events::SampleVoice;
 use exact::order::bits_f32;
 use lines::print::put_hex;

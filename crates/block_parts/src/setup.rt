@@ -2,7 +2,7 @@
 ghost use Prim.Native.Nat.{_≤_, _<_, _+_};
 ghost use mathlib.Core.Path.{_≡_};
 ghost use lib.ListN.{length};
-ghost use Rattle.block_script.specs.Made.{MadeOk};
+ghost use Rattle.block_parts.specs.Made.{MadeOk};
 use super::build::Made;
 use super::build::made_after;
 use super::build::nothing_made;

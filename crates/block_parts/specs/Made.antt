@@ -1,6 +1,6 @@
 -- How much of a program there may be. Definitions only.
 use Prim.Native.Nat.{ℕ, _≤_}
-use Rattle.block_script.specs.declared.build.Made.{Made}
+use Rattle.block_parts.specs.declared.build.Made.{Made}
 
 -- no more than there is room for: 256 regions and samples and one that is too many, and 65,536 numbers
 pub record MadeOk (m : Made) : Type 0 where
