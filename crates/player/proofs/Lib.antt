@@ -5,5 +5,6 @@ pub mod Pitches
 pub mod Placed
 pub mod Positions
 pub mod Reading
+pub mod Resting
 pub mod Runs
 pub mod Starts

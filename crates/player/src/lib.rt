@@ -2,6 +2,7 @@
 // `Hot` is what a frame changes, `Cold` what frames only read.
 pub mod ahead;
 pub mod pitch;
+pub mod plain;
 pub mod segment;
 pub mod source;
 pub mod start;

@@ -14,6 +14,7 @@ use super::Hot;
 use super::Player;
 use super::ahead::ahead;
 use super::ahead::suits;
+use super::plain::play_plain;
 use super::source::Source;
 use super::source::read;
 use filter::FilterSlot;
@@ -129,13 +130,13 @@ fn next_frame(
 }
 
 // What one output gets of a frame.
-fn share_of(g: f32, x: f32, y: f32, v: Pair) -> f32
+pub fn share_of(g: f32, x: f32, y: f32, v: Pair) -> f32
     ensures { λ r. ⌜ r ≡ share g x y (v .l) (v .r) ⌝ }
 {
     g * (x * v.l + y * v.r)
 }
 
-fn add_at(out: &mut [f32], j: usize, x: f32)
+pub fn add_at(out: &mut [f32], j: usize, x: f32)
     requires { ⌜ j < length (now out) ⌝ }
     ensures { λ _. ⌜ now (out .exit) ≡ added (now (out .entry)) j x ⌝ }
 {
@@ -145,7 +146,7 @@ fn add_at(out: &mut [f32], j: usize, x: f32)
 // Where the frames end that are read ahead before frame j of n.
 fn chunk_end(j: usize, n: usize) -> usize
     requires { ⌜ j ≤ n ⌝ }
-    ensures { λ r. ⌜ (r ≤ n) × (r ≤ j + 64) × (j < n → j < r) ⌝ }
+    ensures { λ r. ⌜ (r ≤ n) × (r ≤ j + 64) × (j < n → j < r) × (j ≤ r) ⌝ }
 {
     if n - j < 64 { n } else { j + 64 }
 }
@@ -175,6 +176,11 @@ fn frames(
     let mut h = hot;
     let mut j = 0usize;
     while j < n {
+        let was = h;
+        let same = cold;
+        let rested = play_plain(was, same, a, b, out_l, out_r, j);
+        h.pos = rested.pos;
+        j = rested.next;
         if suited {
             let g = h;
             let c = cold;
