@@ -31,10 +31,10 @@ use Rattle.players.specs.Seats.{sounding, isOver, PlayersOk}
 use Rattle.players.specs.declared.Mixed.{Mixed}
 use Rattle.players.specs.declared.Players.{Players}
 use Rattle.players.specs.declared.mix.Tune.{Tune}
-use Rattle.events.specs.Off.{reapedBoth}
+use Rattle.gates.specs.Off.{reapedBoth}
 use Rattle.events.specs.Voice.{withPlayers}
 use Rattle.events.specs.declared.SampleVoice.{SampleVoice}
-use Rattle.events.proofs.Turns.{reap-none}
+use Rattle.gates.proofs.Turns.{reap-none}
 use Rattle.block.specs.declared.BlockTime.{BlockTime}
 use Rattle.block.specs.declared.Connected.{Connected}
 use Rattle.block.specs.Inputs.{Lent, Cues, cuesOf, soundsOf, inputAt, bendOf}

@@ -19,11 +19,11 @@ use Rattle.note.specs.declared.MaybeNote.{MaybeNote}
 use Rattle.note.specs.declared.MaybeNote.the-variants.{Absent, Present}
 use Rattle.note.specs.declared.Strike.{Strike}
 use Rattle.events.specs.Voice.{Kit, withPlayers}
-use Rattle.events.specs.Off.{reapedBoth, appliedOff}
-use Rattle.events.specs.Gate.{notedOn, notedOff}
+use Rattle.gates.specs.Off.{reapedBoth, appliedOff}
+use Rattle.gates.specs.Gate.{notedOn, notedOff}
 use Rattle.events.specs.declared.Both.{Both}
 use Rattle.events.specs.declared.SampleVoice.{SampleVoice}
-use Rattle.events.proofs.Edges.{Stays, reap-stays, off-stays, on-stays, off-held, off-not-held}
+use Rattle.gates.proofs.Edges.{Stays, reap-stays, off-stays, on-stays, off-held, off-not-held}
 use Rattle.block.specs.declared.BlockTime.{BlockTime}
 use Rattle.block.specs.declared.Connected.{Connected}
 use Rattle.block.specs.declared.Playing.{Playing}

@@ -16,7 +16,7 @@ use Rattle.session.specs.declared.Session.{Session}
 use Rattle.players.specs.Mix.{Sounds, tunedAll, playedBand, playedAll}
 use Rattle.players.specs.Seats.{retunedAll}
 use Rattle.players.specs.declared.mix.Tune.{Tune}
-use Rattle.events.specs.Off.{reapedBoth}
+use Rattle.gates.specs.Off.{reapedBoth}
 use Rattle.events.specs.Voice.{withPlayers}
 use Rattle.events.specs.declared.SampleVoice.{SampleVoice}
 use Rattle.block.specs.Inputs.{Lent, cuesOf, soundsOf}

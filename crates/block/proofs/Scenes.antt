@@ -16,8 +16,8 @@ use Rattle.session.proofs.Walks.{used-small}
 use Rattle.players.specs.Seats.{PlayersOk}
 use Rattle.note.specs.declared.Strike.{Strike}
 use Rattle.events.specs.Voice.{Kit}
-use Rattle.events.specs.Gate.{notedOn, notedOff}
-use Rattle.events.specs.Off.{appliedOff}
+use Rattle.gates.specs.Gate.{notedOn, notedOff}
+use Rattle.gates.specs.Off.{appliedOff}
 use Rattle.events.specs.declared.Both.{Both}
 use Rattle.block.specs.declared.BlockTime.{BlockTime}
 use Rattle.block.specs.declared.Playing.{Playing}

@@ -18,8 +18,8 @@ use Rattle.note.specs.declared.MaybeNote.{MaybeNote}
 use Rattle.note.specs.declared.MaybeNote.the-variants.{Absent, Present}
 use Rattle.note.specs.declared.Strike.{Strike}
 use Rattle.players.specs.Seats.{retunedAll}
-use Rattle.events.specs.Gate.{notedOn, notedOff}
-use Rattle.events.specs.Off.{appliedOff}
+use Rattle.gates.specs.Gate.{notedOn, notedOff}
+use Rattle.gates.specs.Off.{appliedOff}
 use Rattle.events.specs.Voice.{Kit, withPlayers}
 use Rattle.events.specs.declared.Both.{Both}
 use Rattle.events.specs.declared.SampleVoice.{SampleVoice}

@@ -13,7 +13,7 @@ use Rattle.note.specs.declared.MaybeNote.the-variants.{Absent, Present}
 use Rattle.players.specs.Mix.{Sounds, Mixture, tunedAll, playedAll}
 use Rattle.players.specs.declared.Players.{Players}
 use Rattle.players.specs.declared.mix.Tune.{Tune}
-use Rattle.events.specs.Off.{reapedBoth}
+use Rattle.gates.specs.Off.{reapedBoth}
 use Rattle.events.specs.declared.Both.{Both}
 use Rattle.block.specs.declared.Connected.{Connected}
 use Rattle.block.specs.Inputs.{inputAt, bendOf}

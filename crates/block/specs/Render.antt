@@ -11,7 +11,7 @@ use Rattle.session.specs.declared.Session.{Session}
 use Rattle.session.specs.declared.Slots.{Slots}
 use Rattle.players.specs.Mix.{Sounds, Mixture, playedAll}
 use Rattle.players.specs.declared.Mixed.{Mixed}
-use Rattle.events.specs.Off.{reapedBoth}
+use Rattle.gates.specs.Off.{reapedBoth}
 use Rattle.events.specs.Voice.{withPlayers}
 use Rattle.events.specs.declared.Both.{Both}
 use Rattle.block.specs.declared.Playing.{Playing}

@@ -16,7 +16,7 @@ use super::inputs::input_at;
 use super::render::end_records;
 use events::Both;
 use events::SampleVoice;
-use events::off::reap;
+use gates::off::reap;
 use note::MaybeNote;
 use note::note_of;
 use players::Players;

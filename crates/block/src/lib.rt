@@ -13,10 +13,10 @@ ghost use Rattle.block.specs.Block.{retunedVoice, startedBlock, playedBl
 ghost use Rattle.block.specs.Ready.{Ready};
 use events::Both;
 use events::SampleVoice;
-use events::off::with_players;
 use frames::amplify_both;
 use frames::clear_both;
 use frames::play_frames;
+use gates::off::with_players;
 use inputs::bend_of;
 use inputs::input_at;
 use note::MaybeNote;

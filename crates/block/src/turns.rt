@@ -10,9 +10,9 @@ use super::inputs::first_off;
 use super::inputs::swap_remove;
 use events::Both;
 use events::SampleVoice;
-use events::gate::note_off;
-use events::gate::note_on;
-use events::off::apply_off;
+use gates::gate::note_off;
+use gates::gate::note_on;
+use gates::off::apply_off;
 use note::Strike;
 use session::Session;
 

@@ -7,7 +7,7 @@ use lib.ListN.{length, getD, length-map}
 use borrow.Author.Tests.{ltb-false, not-true}
 use Rattle.program.proofs.Binding.{every-at}
 use Rattle.players.specs.Seats.{sounding, slotNumbers, slotsFrom}
-use Rattle.players.specs.Sound.{playersFit, samplesFit}
+use Rattle.player_checks.specs.Sound.{playersFit, samplesFit}
 use Rattle.players.specs.declared.Players.{Players}
 use Rattle.players.proofs.Kept.{sounding-few}
 use Rattle.players.proofs.Seating.{slots-from}

@@ -9,7 +9,7 @@ use borrow.Author.Tests.{ltb-false, eqb-true, not-true}
 use Rattle.program.specs.Valid.{every}
 use Rattle.program.proofs.Binding.{every-at}
 use Rattle.players.specs.Seats.{sounding, slotNumbers}
-use Rattle.players.specs.Sound.{playerFits, sampleFits, playersFit, samplesFit}
+use Rattle.player_checks.specs.Sound.{playerFits, sampleFits, playersFit, samplesFit}
 use Rattle.players.specs.declared.Players.{Players}
 use Rattle.player.specs.declared.Player.{Player}
 use Rattle.session.specs.Lists.{pick, any, keep, usedOf}

@@ -17,8 +17,8 @@ use Rattle.program.specs.Valid.{every, validRegion, regionTests, loopInOrder}
 use Rattle.program.specs.declared.bind.BoundProgram.{BoundProgram}
 use Rattle.program.proofs.Binding.{every-at}
 use Rattle.program.proofs.Bound.{regions-are, samples-are, table-enough, region-good, sample-good}
-use Rattle.players.specs.Sound.{samplesFit}
-use Rattle.players.proofs.Fits.{fit-ok}
+use Rattle.player_checks.specs.Sound.{samplesFit}
+use Rattle.player_checks.proofs.Fits.{fit-ok}
 use Rattle.session.specs.declared.Session.{Session}
 use Rattle.events.specs.Voice.{Bindable}
 use Rattle.events.specs.declared.SampleVoice.{SampleVoice}

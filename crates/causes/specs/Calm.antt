@@ -5,7 +5,7 @@ use mathlib.Core.List.{List, [], _∷_}
 use Rattle.program.specs.Bind.{programOk}
 use Rattle.program.specs.Valid.{every}
 use Rattle.players.specs.Seats.{sounding, slotNumbers}
-use Rattle.players.specs.Sound.{playersFit, samplesFit}
+use Rattle.player_checks.specs.Sound.{playersFit, samplesFit}
 use Rattle.session.specs.declared.Session.{Session}
 use Rattle.events.specs.declared.SampleVoice.{SampleVoice}
 use Rattle.block.specs.declared.BlockTime.{BlockTime}

@@ -8,7 +8,7 @@ use lib.Ieee.{Float, binary32, le, ofBits}
 use Rattle.program.specs.Bind.{programOk}
 use Rattle.program.specs.Valid.{every}
 use Rattle.players.specs.Seats.{sounding, slotNumbers}
-use Rattle.players.specs.Sound.{playersFit, samplesFit}
+use Rattle.player_checks.specs.Sound.{playersFit, samplesFit}
 use Rattle.players.specs.declared.Players.{Players}
 use Rattle.session.specs.Tests.{isLive, overLive, twiceLive, strayRecord, overRecords, overVoice, overHeld, regionOutside, slotsInOrder}
 use Rattle.session.specs.declared.Session.{Session}

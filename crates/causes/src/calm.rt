@@ -17,7 +17,7 @@ use super::tally::misfit;
 use block::BlockTime;
 use block::inputs::next_gate;
 use events::SampleVoice;
-use players::check::players_look;
+use player_checks::check::players_look;
 use program::bind::program_ok;
 use session::Session;
 

@@ -1,4 +1,2 @@
 pub mod Voice
 pub mod Start
-pub mod Off
-pub mod Gate

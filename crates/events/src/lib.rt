@@ -1,8 +1,5 @@
-// What an event does to the session and to a voice: a region's start, the release regions, an off mark, a gate's edge. The Rust's
-// `start_region`, `dispatch_release`, `apply_off`, `reap`, `note_on` and `note_off`. `words` and `samples` are the bound program's, of
-// `n` regions.
-pub mod gate;
-pub mod off;
+// What a start does to the session and to a voice, and a note's release regions: the Rust's `start_region` and `dispatch_release`.
+// `words` and `samples` are the bound program's, of `n` regions.
 pub mod start;
 
 use note::MaybeNote;

@@ -11,5 +11,3 @@ pub mod Difference
 pub mod Whole
 pub mod Looping
 pub mod Fraction
-pub mod Inner
-pub mod Rows

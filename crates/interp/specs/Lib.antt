@@ -4,4 +4,3 @@ pub mod Span
 pub mod Sinc
 pub mod Read
 pub mod Places
-pub mod Four

@@ -1,10 +1,3 @@
-pub mod Behind
-pub mod Fours
-pub mod Kept
 pub mod Pitches
-pub mod Placed
-pub mod Positions
-pub mod Reading
-pub mod Resting
-pub mod Runs
+pub mod Within
 pub mod Starts

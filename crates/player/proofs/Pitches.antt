@@ -14,7 +14,7 @@ use Rattle.interp.proofs.HalfTaps.{half-small}
 use Rattle.player.specs.declared.Cold.{Cold}
 use Rattle.player.specs.Bounds.{Step, ColdOk, most}
 use Rattle.player.specs.Pitch.{heldStep, stepOf, withStep, pitched}
-use Rattle.player.proofs.Positions.{zero-of, left}
+use Rattle.player.proofs.Within.{zero-of, left}
 
 -- not above 4,096
 kept : (s : Float) → T (le first s) → T (not (lt most s)) → T (le s most)

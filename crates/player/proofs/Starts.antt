@@ -26,7 +26,7 @@ use Rattle.player.specs.declared.start.Event.{Event}
 use Rattle.player.specs.declared.start.Note.{Note}
 use Rattle.player.specs.declared.start.Pcm.{Pcm}
 use Rattle.player.proofs.Pitches.{at-first, pitched-ok}
-use Rattle.player.proofs.Positions.{round-within}
+use Rattle.player.proofs.Within.{round-within}
 
 last-below : (end : MaybeU32) (frames : ℕ) → frames ≤ 4294967295 → lastOf end frames < 4294967295
 unfolding lastOf

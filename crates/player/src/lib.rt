@@ -1,10 +1,6 @@
 // A sounding region: where it stands in its sample, its envelope, its filters, and what it adds to a block's two outputs.
 // `Hot` is what a frame changes, `Cold` what frames only read.
-pub mod ahead;
 pub mod pitch;
-pub mod plain;
-pub mod segment;
-pub mod source;
 pub mod start;
 
 use envelope::Env;

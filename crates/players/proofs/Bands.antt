@@ -14,9 +14,9 @@ use Rattle.session.specs.declared.Slots.{Slots}
 use Rattle.session.proofs.Packing.{packed-set}
 use Rattle.session.proofs.Walks.{used-small}
 use Rattle.player.specs.Bounds.{PlayerOk}
-use Rattle.player.specs.Segment.{Rendered, playedBy}
+use Rattle.segments.specs.Segment.{Rendered, playedBy}
 use Rattle.player.specs.declared.Player.{Player}
-use Rattle.player.specs.declared.segment.Played.{Played}
+use Rattle.segments.specs.declared.segment.Played.{Played}
 use Rattle.players.specs.declared.Players.{Players}
 use Rattle.players.specs.declared.mix.Tune.{Tune}
 use Rattle.players.specs.Mix.{Sounds, Band, Mixture, lentTo, joinedBy, playedBand, playedAll, mixture, noted, slotPushed, tunedOne, tunedAll}

@@ -17,9 +17,9 @@ use Rattle.session.proofs.Walks.{used-below, used-small}
 use Rattle.player.specs.declared.Cold.{Cold}
 use Rattle.player.specs.declared.Hot.{Hot}
 use Rattle.player.specs.declared.Player.{Player}
-use Rattle.player.specs.declared.segment.Frame.{Frame}
-use Rattle.player.specs.Source.{Lent}
-use Rattle.player.specs.Segment.{Run, frameNext, runOne, runFor, withHot, played, mixed, playedBy}
+use Rattle.segments.specs.declared.segment.Frame.{Frame}
+use Rattle.segments.specs.Source.{Lent}
+use Rattle.segments.specs.Segment.{Run, frameNext, runOne, runFor, withHot, played, mixed, playedBy}
 use Rattle.players.specs.declared.Players.{Players}
 use Rattle.players.specs.Seats.{sounding, reseat, slotsFrom, slotNumbers}
 use Rattle.players.specs.Mix.{Sounds, Band, lentTo, joinedBy, playedBand, playedAll}

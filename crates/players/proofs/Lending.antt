@@ -10,7 +10,7 @@ use lib.Seq.{take-nil, drop-nil}
 use lib.Ieee.{Float}
 use Rattle.program.specs.declared.sample.Sample.{Sample}
 use Rattle.program.specs.Sample.{sampleAt}
-use Rattle.player.specs.Source.{Lent}
+use Rattle.segments.specs.Source.{Lent}
 use Rattle.player.specs.declared.Player.{Player}
 use Rattle.players.specs.declared.mix.Parts.{Parts}
 use Rattle.players.specs.Mix.{Sounds, firstChannel, secondChannel, partsOf, lentTo}

@@ -2,8 +2,6 @@ pub mod Kept
 pub mod Places
 pub mod Seating
 pub mod Passing
-pub mod Fits
-pub mod Looking
 pub mod Lending
 pub mod Tuning
 pub mod Bands

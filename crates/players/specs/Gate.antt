@@ -15,7 +15,7 @@ use Rattle.program.specs.declared.region.OffMode.{OffMode}
 use Rattle.program.specs.declared.region.OffMode.the-variants.{Fast, Normal, Time}
 use Rattle.player.specs.declared.Cold.{Cold}
 use Rattle.player.specs.declared.Player.{Player}
-use Rattle.player.specs.Segment.{offFast}
+use Rattle.segments.specs.Segment.{offFast}
 use Rattle.session.specs.Lists.{pick, any, changeWhere, changeFirst}
 use Rattle.players.specs.declared.Players.{Players}
 use Rattle.players.specs.declared.Released.{Released}

@@ -1,4 +1,3 @@
 pub mod Seats
 pub mod Gate
 pub mod Mix
-pub mod Sound

@@ -8,8 +8,8 @@ use lib.Ieee.{Float}
 use Rattle.program.specs.declared.sample.Sample.{Sample}
 use Rattle.program.specs.Sample.{sampleAt}
 use Rattle.player.specs.declared.Player.{Player}
-use Rattle.player.specs.Source.{Lent}
-use Rattle.player.specs.Segment.{playedBy}
+use Rattle.segments.specs.Source.{Lent}
+use Rattle.segments.specs.Segment.{playedBy}
 use Rattle.session.specs.Lists.{pick}
 use Rattle.session.specs.declared.Slots.{Slots}
 use Rattle.players.specs.declared.Players.{Players}

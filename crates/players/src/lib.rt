@@ -1,5 +1,4 @@
 // A voice's players: 32 places by value, of which the first `count` are in use, in the order of their starts.
-pub mod check;
 pub mod gate;
 pub mod mix;
 

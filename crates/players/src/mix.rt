@@ -3,7 +3,7 @@ ghost use mathlib.Core.Path.{_≡_};
 ghost use Prim.Native.Nat.{_<_, min};
 ghost use lib.ListN.{length};
 ghost use Rattle.player.specs.Bounds.{PlayerOk};
-ghost use Rattle.player.specs.Segment.{playedBy};
+ghost use Rattle.segments.specs.Segment.{playedBy};
 ghost use Rattle.session.specs.Lists.{any};
 ghost use Rattle.players.specs.Mix.{partsOf, lentTo, noted, tunedOne, tunedAll, playedAll};
 ghost use Rattle.players.specs.Seats.{sounding, isOver, PlayersOk};
@@ -12,10 +12,10 @@ use super::is_over;
 use super::with_cold;
 use player::Player;
 use player::pitch::set_pitch;
-use player::segment::Played;
-use player::segment::play;
 use program::sample::Sample;
 use program::sample::sample_at;
+use segments::segment::Played;
+use segments::segment::play;
 use session::Slots;
 
 // Where a sample's channels lie among the frames: from `first` to `second`, and from there to `end`.

@@ -16,8 +16,8 @@ use Rattle.note.specs.declared.MaybeNote.the-variants.{Absent, Present}
 use Rattle.note.specs.declared.NoteState.{NoteState}
 use Rattle.note.specs.declared.Strike.{Strike}
 use Rattle.players.specs.Gate.{releasedAll, offedSlot}
-use Rattle.events.specs.Gate.{risen, hitAt, attackCause, noteStarted, notedOn, letGoBoth, letGoNote, notedOff}
-use Rattle.events.specs.Off.{reapedBoth, firedNote, mayFire, chokeFires, appliedOff, actsOn, isTaken, tookOwn, ownOffs}
+use Rattle.gates.specs.Gate.{risen, hitAt, attackCause, noteStarted, notedOn, letGoBoth, letGoNote, notedOff}
+use Rattle.gates.specs.Off.{reapedBoth, firedNote, mayFire, chokeFires, appliedOff, actsOn, isTaken, tookOwn, ownOffs}
 use Rattle.events.specs.Start.{startIn, startedRegion, startedAll, releaseCause, releasesFired, firedFor, dispatchedRelease}
 use Rattle.events.specs.Voice.{Kit, withPlayers, withNote, struck, ungated}
 use Rattle.events.specs.declared.Both.{Both}

@@ -23,8 +23,8 @@ use Rattle.note.specs.declared.Strike.{Strike}
 use Rattle.players.specs.Gate.{releasedAll, offedSlot}
 use Rattle.players.specs.Mix.{Sounds}
 use Rattle.players.specs.Seats.{sounding, isOver}
-use Rattle.events.specs.Gate.{risen, hitAt, noteStarted, notedOn, letGoBoth, letGoNote, notedOff}
-use Rattle.events.specs.Off.{reapedBoth, firedNote, mayFire, chokeFires, appliedOff, actsOn, isTaken, tookOwn, ownOffs}
+use Rattle.gates.specs.Gate.{risen, hitAt, noteStarted, notedOn, letGoBoth, letGoNote, notedOff}
+use Rattle.gates.specs.Off.{reapedBoth, firedNote, mayFire, chokeFires, appliedOff, actsOn, isTaken, tookOwn, ownOffs}
 use Rattle.events.specs.Start.{markedBy, enteredBy, joinedBy, startedRegion, startedAll, releasesFired, firedFor, dispatchedRelease}
 use Rattle.events.specs.Voice.{Kit, withPlayers, withNote, struck, ungated}
 use Rattle.events.specs.declared.Both.{Both}

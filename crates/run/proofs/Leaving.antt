@@ -19,7 +19,7 @@ use Rattle.players.specs.Seats.{sounding, slotNumbers, isOver, reaped}
 use Rattle.players.specs.declared.Players.{Players}
 use Rattle.players.proofs.Kept.{sounding-few}
 use Rattle.players.proofs.Seating.{sounding-reaped, slots-reaped}
-use Rattle.events.specs.Off.{reapedBoth, withoutPlayers}
+use Rattle.gates.specs.Off.{reapedBoth, withoutPlayers}
 use Rattle.events.specs.Voice.{withPlayers}
 use Rattle.events.specs.declared.Both.{Both}
 use Rattle.run.specs.Run.{Rising}

@@ -23,7 +23,7 @@ use Rattle.session.proofs.Voices.{keep-fewer}
 use Rattle.session.proofs.Walks.{keep-append}
 use Rattle.players.specs.Seats.{sounding, isOver, reaped}
 use Rattle.note.specs.declared.NoteState.{NoteState}
-use Rattle.events.specs.Off.{reapedBoth, withoutPlayers}
+use Rattle.gates.specs.Off.{reapedBoth, withoutPlayers}
 use Rattle.events.specs.Start.{startIn, startOf, startedRegion, markedBy, enteredBy, droppedOne, joinedBy, playerOf}
 use Rattle.events.specs.Voice.{Kit, withPlayers}
 use Rattle.events.specs.declared.Both.{Both}

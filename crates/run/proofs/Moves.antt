@@ -13,7 +13,7 @@ use Rattle.session.specs.Changes.{Along, unmarked}
 use Rattle.session.specs.declared.PlayerRecord.{PlayerRecord}
 use Rattle.note.specs.declared.NoteState.{NoteState}
 use Rattle.players.specs.Seats.{sounding, slotNumbers}
-use Rattle.events.specs.Off.{reapedBoth}
+use Rattle.gates.specs.Off.{reapedBoth}
 use Rattle.events.specs.Start.{startIn, startedRegion}
 use Rattle.events.specs.Voice.{Kit}
 use Rattle.events.specs.declared.Both.{Both}

@@ -20,7 +20,7 @@ use Rattle.note.specs.declared.NoteState.{NoteState}
 use Rattle.player.specs.declared.Player.{Player}
 use Rattle.players.specs.Seats.{sounding, isOver, reaped}
 use Rattle.players.proofs.Kept.{keep-few, sounding-few}
-use Rattle.events.specs.Off.{reapedBoth, withoutPlayers}
+use Rattle.gates.specs.Off.{reapedBoth, withoutPlayers}
 use Rattle.events.specs.Start.{startIn, markedBy, enteredBy, joinedBy, playerOf, droppedOne, startedRegion}
 use Rattle.events.specs.Voice.{Kit, withPlayers}
 use Rattle.events.specs.declared.Both.{Both}

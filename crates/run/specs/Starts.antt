@@ -21,8 +21,8 @@ use Rattle.note.specs.declared.MaybeNote.the-variants.{Absent, Present}
 use Rattle.note.specs.declared.NoteState.{NoteState}
 use Rattle.note.specs.declared.Strike.{Strike}
 use Rattle.players.specs.Gate.{offedSlot}
-use Rattle.events.specs.Gate.{risen, hitAt, attackCause, noteStarted, letGoBoth}
-use Rattle.events.specs.Off.{reapedBoth, unfired, firedNote, tookOwn, isTaken}
+use Rattle.gates.specs.Gate.{risen, hitAt, attackCause, noteStarted, letGoBoth}
+use Rattle.gates.specs.Off.{reapedBoth, unfired, firedNote, tookOwn, isTaken}
 use Rattle.events.specs.Start.{startIn, startedRegion, releaseCause}
 use Rattle.events.specs.Voice.{Kit, withPlayers, withNote, struck, ungated}
 use Rattle.events.specs.declared.Both.{Both}

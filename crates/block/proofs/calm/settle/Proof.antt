@@ -1,7 +1,7 @@
 use borrow.Author.Needs.{needs}
 use mathlib.Core.Path.{ap, _∙_}
 use Rattle.session.specs.declared.Session.{Session}
-use Rattle.events.specs.Off.{reapedBoth}
+use Rattle.gates.specs.Off.{reapedBoth}
 use Rattle.block.specs.Calm.{settled}
 use Rattle.block.proofs.calm.settle.Statement.{statement}
 use Rattle.block.proofs.calm.settle.Tie as tie

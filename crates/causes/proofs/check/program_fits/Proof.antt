@@ -4,7 +4,7 @@ use Rattle.program.proofs.Checks.{every-no, after, final}
 use denote.Ref.{now}
 use mathlib.Core.List.{[], _∷_}
 use Rattle.program.specs.Bind.{programOk}
-use Rattle.players.specs.Sound.{samplesFit}
+use Rattle.player_checks.specs.Sound.{samplesFit}
 use Rattle.causes.specs.Tests.{programFits}
 use borrow.Author.Needs.{needs}
 use Rattle.causes.proofs.check.program_fits.Statement.{statement}

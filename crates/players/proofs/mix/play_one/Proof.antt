@@ -1,7 +1,7 @@
 use borrow.Author.Needs.{needs}
 use mathlib.Core.Path.{ap, _∙_}
 use native.Mathlib.Omega.{arith}
-use Rattle.player.specs.Segment.{playedBy}
+use Rattle.segments.specs.Segment.{playedBy}
 use Rattle.players.proofs.Lending.{inside, parts-lent}
 use Rattle.players.proofs.mix.play_one.Statement.{statement}
 use Rattle.players.proofs.mix.play_one.Tie as tie

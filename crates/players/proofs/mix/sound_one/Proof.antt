@@ -1,7 +1,7 @@
 use borrow.Author.Needs.{needs}
 use mathlib.Core.Path.{ap, _∙_}
 use Rattle.player.specs.declared.Player.{Player}
-use Rattle.player.specs.Segment.{playedBy}
+use Rattle.segments.specs.Segment.{playedBy}
 use Rattle.players.specs.Mix.{lentTo}
 use Rattle.players.proofs.mix.sound_one.Statement.{statement}
 use Rattle.players.proofs.mix.sound_one.Tie as tie

@@ -1,0 +1,4 @@
+pub mod Turns
+pub mod Gates
+pub mod Enough
+pub mod Edges

@@ -1,0 +1,4 @@
+pub mod Source
+pub mod Ahead
+pub mod Segment
+pub mod Plain
