@@ -7,7 +7,7 @@ here=$PWD
 work=$here/target/compare/player
 calls=$work/crates/player_calls
 mkdir -p "$calls/src"
-for c in exact elementary program envelope filter interp gain filter_design player; do ln -sfn "$here/crates/$c" "$work/crates/$c"; done
+for c in exact elementary program envelope filter interp lanes gain filter_design player segments; do ln -sfn "$here/crates/$c" "$work/crates/$c"; done
 # what the driver calls: a crate of its own, outside the gate
 cp compare/player/calls.rt.txt "$calls/src/lib.rt"
 for f in compare/player/*.antt.txt; do
@@ -22,10 +22,12 @@ program: exact
 envelope: exact elementary program
 filter:
 interp: exact
+lanes: exact interp
 gain: exact elementary program
 filter_design: exact elementary filter program gain
 player: exact elementary envelope filter filter_design gain interp program
-player_calls: exact elementary envelope filter filter_design gain interp program player
+segments: exact elementary envelope filter filter_design gain interp lanes program player
+player_calls: exact elementary envelope filter filter_design gain interp lanes program player segments
 LIST
 (cd "$work" && rt staticlib player_calls) >&2
 # the oracle with accessors to what the Rust keeps private

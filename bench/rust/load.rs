@@ -121,6 +121,7 @@ pub fn loads() -> Vec<Load> {
         Load { quality: 0.0, rounds: 4000, ..load("linear-mono") },
         Load { quality: 1.0, biquads: true, rounds: 200, ..many("hermite-32-biquads") },
         Load { stereo: true, ..many("sinc-stereo-32") },
+        Load { freq: 440.0, stereo: true, rounds: 500, ..many("unity-stereo-32") },
         edges("edges-16x32-sinc"),
         Load { silent: true, rounds: 40, ..edges("edges-16x32-silent") },
         sixteen("held-16x32-sinc"),
@@ -141,6 +142,7 @@ pub fn growth() -> Vec<(&'static str, Vec<Load>)> {
     let at = |l: Load, n: usize| Load { name: format!("{} {n}", l.name), ..l };
     vec![
         ("players, Hermite mono", [1, 2, 4, 8, 16, 32].map(|n| Load { players: n, regions: 32, quality: 1.0, rounds: 4000 / n as u32, ..at(load("hermite players"), n) }).into()),
+        ("players, unity mono", [1, 2, 4, 8, 16, 32].map(|n| Load { players: n, regions: 32, freq: 440.0, rounds: 4000 / n as u32, ..at(load("unity players"), n) }).into()),
         ("players, sinc stereo", [1, 2, 4, 8, 16, 32].map(|n| Load { players: n, regions: 32, stereo: true, rounds: 1000 / n as u32, ..at(load("sinc players"), n) }).into()),
         ("records of others, idle voice", [0, 120, 240, 480].map(|n| Load { others: if n == 0 { 0 } else { 15 }, players: n / 15, regions: 32, ..at(idle("records"), n) }).into()),
         ("regions, idle voice", [1, 16, 64, 256].map(|n| Load { players: 1, regions: n, ..at(idle("regions"), n) }).into()),
