@@ -1,5 +1,6 @@
 // A block of a voice: the Rust's `process`, once the tests of the call have passed. Off times are collected, pitch is set, then events by
 // frame with the frames between them, and the amp input last.
+#![tactic(auto)]
 pub mod calm;
 pub mod frames;
 pub mod inputs;
@@ -21,14 +22,14 @@ use players::retune;
 use session::{Offs, Session, collect_offs};
 
 // How many frames a block has, and the time of its first.
-#[derive(Drop)]
+#[derive(Clone, Copy)]
 pub struct BlockTime {
     pub frames: usize,
     pub offset: u64,
 }
 
 // Which of the lent inputs are connected.
-#[derive(Drop)]
+#[derive(Clone, Copy)]
 pub struct Connected {
     pub freq: bool,
     pub gate: bool,

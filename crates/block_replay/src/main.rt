@@ -1,5 +1,6 @@
 // Many block scripts in one input, parted by lines `=`, each performed from a fresh session. What they print is parted likewise, so that it
 // can be held to what the Rust printed (docs/COMPARISON.md).
+#![tactic(auto)]
 use block_script::perform::perform;
 use libc::STDOUT_FILENO;
 use lister::feed::{LAST, parted_feed};

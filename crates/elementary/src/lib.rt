@@ -1,4 +1,5 @@
 // The seven float functions that vary by platform.
+#![tactic(auto)]
 pub mod hyperbolic;
 pub mod log;
 pub mod power;

@@ -1,5 +1,6 @@
 // What a start does to the session and to a voice, and a note's release regions: the Rust's `start_region` and `dispatch_release`.
 // `words` and `samples` are the bound program's, of `n` regions.
+#![tactic(auto)]
 pub mod start;
 
 use note::MaybeNote;
@@ -8,7 +9,7 @@ use program::bind::BoundProgram;
 use session::Session;
 
 // One note of a bound program: the Rust's `SampleVoice`. The off times of a block are the block's own.
-#[derive(Drop)]
+#[derive(Clone, Copy)]
 pub struct SampleVoice {
     pub voice: u64,
     pub sample_rate: f32,
@@ -24,14 +25,14 @@ pub struct SampleVoice {
 }
 
 // The session and a voice, as an event leaves them.
-#[derive(Drop)]
+#[derive(Clone, Copy)]
 pub struct Both {
     pub session: Session,
     pub voice: SampleVoice,
 }
 
 // What a start has of its event.
-#[derive(Drop)]
+#[derive(Clone, Copy)]
 pub struct Cause {
     pub serial: u64,
     pub on_note: bool,

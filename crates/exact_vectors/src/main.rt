@@ -1,6 +1,7 @@
 // Writes what the exact numbers give at the edges, a line for each: the function, its arguments' bits and the result's.
 // The file `stdout` has the machine's own answers: answers.rs writes it with Rust's operators on the same tables, and
 // never calls the port.
+#![tactic(auto)]
 mod tables;
 
 fn main() {

@@ -2,11 +2,12 @@
 // 12 k on, six for each channel. A biquad stage keeps z1 and z2 in two of them, so that three stages fill six; a one-pole
 // keeps its last input and output in the first two. A slot has one shape for its life and all states are 0 at its start,
 // so the two uses never meet.
+#![tactic(auto)]
 ghost use Rattle.std.specs.Prelude.{◌≡◌, ◌+◌, ◌*◌, ◌≤◌, ◌<◌};
 ghost use Rattle.filter.specs.Filter.{Ticked, Paired, stage_at, stages, stage_count, ticked, pair_ticked, chained, AllStages};
 
 // A biquad's coefficients, divided by a0.
-#[derive(Drop)]
+#[derive(Clone, Copy)]
 pub struct Coefficients {
     pub b0: f32,
     pub b1: f32,
@@ -15,7 +16,7 @@ pub struct Coefficients {
     pub a2: f32,
 }
 
-#[derive(Drop)]
+#[derive(Clone, Copy)]
 pub enum FilterShape {
     Off,
     // y = (1 - p) x + p y1
@@ -37,13 +38,13 @@ pub enum FilterShape {
     },
 }
 
-#[derive(Drop)]
+#[derive(Clone, Copy)]
 pub struct FilterSlot {
     pub shape: FilterShape,
 }
 
 // Both channels of a frame.
-#[derive(Drop)]
+#[derive(Clone, Copy)]
 pub struct Pair {
     pub l: f32,
     pub r: f32,

@@ -1,5 +1,6 @@
 // Reading a sample at a fractional frame position: two points, four points, or a windowed sinc. The frames are lent as they
 // are; a kernel that draws on one before the first or behind the last multiplies 0.0.
+#![tactic(auto)]
 pub mod points;
 pub mod position;
 pub mod sinc;
@@ -13,7 +14,7 @@ use crate::position::{fraction, frame_index};
 use crate::sinc::{Pair, SincSpan};
 
 // Which kernel a voice reads its samples with.
-#[derive(Drop)]
+#[derive(Clone, Copy)]
 pub enum Interp {
     Linear,
     Hermite,

@@ -12,7 +12,7 @@ use exact::format::narrow;
 use exact::order::abs_f32;
 
 // What a step asks of the kernel: its cutoff, as a fraction of the sample's Nyquist frequency, and its taps on each side.
-#[derive(Drop)]
+#[derive(Clone, Copy)]
 pub struct SincSpan {
     pub fc: f32,
     pub half: u16,
@@ -56,14 +56,14 @@ fn half_taps(x: f32) -> u16
 }
 
 // The sum of the weighted frames, and of the weights.
-#[derive(Drop)]
+#[derive(Clone, Copy)]
 pub struct Sums {
     pub acc: f32,
     pub wsum: f32,
 }
 
 // The same for two channels, whose weights are one.
-#[derive(Drop)]
+#[derive(Clone, Copy)]
 pub struct PairSums {
     pub a: f32,
     pub b: f32,

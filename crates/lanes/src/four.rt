@@ -12,7 +12,7 @@ ghost use Rattle.lanes.specs.Four.{Inside, Parts, InFrames, Rows, Low, RowOf, le
 
 use interp::sinc::{PairSums, SincSpan, Sums, mean, whole};
 
-#[derive(Drop)]
+#[derive(Clone, Copy)]
 pub struct Four {
     pub x0: f32,
     pub x1: f32,
@@ -21,7 +21,7 @@ pub struct Four {
 }
 
 // The frames that the first taps stand at.
-#[derive(Drop)]
+#[derive(Clone, Copy)]
 pub struct Starts {
     pub n0: usize,
     pub n1: usize,

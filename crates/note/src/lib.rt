@@ -1,5 +1,6 @@
 // A note of a voice: what its rising gate's inputs make it, and which regions it starts and which its release. Choosing stands apart
 // from starting: it reads the program and the session, and changes nothing but the sequences.
+#![tactic(auto)]
 ghost use Rattle.std.specs.Prelude.{◌≡◌};
 ghost use Rattle.note.specs.Note.{note_of, key_of, velocity_of, kernel_of, note_state};
 
@@ -12,7 +13,7 @@ use exact::order::{bits_f32, clamp_f32, is_finite_f32};
 use interp::Interp;
 
 // The note that a voice plays.
-#[derive(Drop)]
+#[derive(Clone, Copy)]
 pub struct NoteState {
     pub note: u8,
     pub vel: u8,
@@ -25,14 +26,14 @@ pub struct NoteState {
 }
 
 // The Rust's `Option<NoteState>`.
-#[derive(Drop)]
+#[derive(Clone, Copy)]
 pub enum MaybeNote {
     Absent,
     Present(NoteState),
 }
 
 // The inputs on the frame of a rising gate, and its time.
-#[derive(Drop)]
+#[derive(Clone, Copy)]
 pub struct Strike {
     pub freq: f32,
     pub vel: f32,
@@ -43,7 +44,7 @@ pub struct Strike {
 }
 
 // Regions of the program, in order.
-#[derive(Drop)]
+#[derive(Clone, Copy)]
 pub struct Chosen {
     pub regions: [u32; 256],
     pub count: usize,

@@ -1,5 +1,6 @@
 // A sounding region: where it stands in its sample, its envelope, its filters, and what it adds to a block's two outputs.
 // `Hot` is what a frame changes, `Cold` what frames only read.
+#![tactic(auto)]
 pub mod pitch;
 pub mod start;
 
@@ -11,7 +12,7 @@ use program::region::{LoopMode, OffMode};
 
 // A loop in frames of the sample, its last frame included. The fade into its start takes the last `xf` frames, from
 // `xf_out_start` on.
-#[derive(Drop)]
+#[derive(Clone, Copy)]
 pub struct LoopRt {
     pub start: u32,
     pub end: u32,
@@ -21,13 +22,13 @@ pub struct LoopRt {
 }
 
 // The Rust's `Option<LoopRt>`.
-#[derive(Drop)]
+#[derive(Clone, Copy)]
 pub enum MaybeLoop {
     Absent,
     Present(LoopRt),
 }
 
-#[derive(Drop)]
+#[derive(Clone, Copy)]
 pub struct Hot {
     pub env: Env,
     pub pos: f64,
@@ -36,7 +37,7 @@ pub struct Hot {
     pub offed: bool,
 }
 
-#[derive(Drop)]
+#[derive(Clone, Copy)]
 pub struct Cold {
     pub step: f64,
     pub span: SincSpan,
@@ -68,7 +69,7 @@ pub struct Cold {
     pub release_time: f32,
 }
 
-#[derive(Drop)]
+#[derive(Clone, Copy)]
 pub struct Player {
     pub hot: Hot,
     pub cold: Cold,

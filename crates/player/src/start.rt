@@ -21,7 +21,7 @@ use program::region::{
 use program::sample::Sample;
 
 // What a start reads of its note, and of its event.
-#[derive(Drop)]
+#[derive(Clone, Copy)]
 pub struct Note {
     pub note: u8,
     pub vel: u8,
@@ -30,7 +30,7 @@ pub struct Note {
     pub interp: Interp,
 }
 
-#[derive(Drop)]
+#[derive(Clone, Copy)]
 pub struct Event {
     pub slot: u32,
     pub region: u32,
@@ -40,7 +40,7 @@ pub struct Event {
 }
 
 // The sample that a region plays, or none.
-#[derive(Drop)]
+#[derive(Clone, Copy)]
 pub struct Pcm {
     pub silent: bool,
     pub frames: u32,

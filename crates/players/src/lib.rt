@@ -1,4 +1,5 @@
 // A voice's players: 32 places by value, of which the first `count` are in use, in the order of their starts.
+#![tactic(auto)]
 pub mod gate;
 pub mod mix;
 
@@ -16,7 +17,7 @@ use player::{Cold, Hot, MaybeLoop, Player};
 use program::region::{LoopMode, OffMode};
 use session::Slots;
 
-#[derive(Drop)]
+#[derive(Clone, Copy)]
 pub struct Players {
     pub players: [Player; 32],
     pub count: usize,

@@ -22,7 +22,7 @@ pub struct Parts {
 }
 
 // How a block tunes the players: to a note and a bend, or not at all.
-#[derive(Drop)]
+#[derive(Clone, Copy)]
 pub struct Tune {
     pub on: bool,
     pub note_f: f32,

@@ -10,7 +10,7 @@ use super::sample::{frames_finite, sample_at, sample_ok, shape_ok};
 
 // What binding makes of a program: how many regions, samples and frames it has. Nothing else is kept, so that a block finds again by the
 // same tests whether a bound program belongs to what it is lent.
-#[derive(Drop)]
+#[derive(Clone, Copy)]
 pub struct BoundProgram {
     pub regions: u32,
     pub samples: u32,

@@ -6,7 +6,7 @@ ghost use Rattle.program.specs.Curve.{point_of, points_of, near_step, near_of, n
 use super::region::float_of;
 
 // A velocity and its gain.
-#[derive(Drop)]
+#[derive(Clone, Copy)]
 pub struct Side {
     pub at: u8,
     pub gain: f32,

@@ -7,7 +7,7 @@ pub const REGION_WORDS: usize = 392;
 // `sample` of a region that plays nothing.
 pub const SILENCE: u32 = 0xffff_ffff;
 
-#[derive(Drop)]
+#[derive(Clone, Copy)]
 pub enum LoopMode {
     NoLoop,
     OneShot,
@@ -15,7 +15,7 @@ pub enum LoopMode {
     Sustain,
 }
 
-#[derive(Drop)]
+#[derive(Clone, Copy)]
 pub enum LoopSource {
     None,
     Sfz,
@@ -23,7 +23,7 @@ pub enum LoopSource {
     Whole,
 }
 
-#[derive(Drop)]
+#[derive(Clone, Copy)]
 pub enum Trigger {
     Attack,
     Release,
@@ -32,14 +32,14 @@ pub enum Trigger {
     Legato,
 }
 
-#[derive(Drop)]
+#[derive(Clone, Copy)]
 pub enum OffMode {
     Fast,
     Normal,
     Time,
 }
 
-#[derive(Drop)]
+#[derive(Clone, Copy)]
 pub enum FilterKind {
     Lpf1p,
     Hpf1p,
@@ -56,7 +56,7 @@ pub enum FilterKind {
     Hsh,
 }
 
-#[derive(Drop)]
+#[derive(Clone, Copy)]
 pub enum EqKind {
     Peak,
     LowShelf,
@@ -64,37 +64,37 @@ pub enum EqKind {
 }
 
 // The Rust's `Option<u32>`.
-#[derive(Drop)]
+#[derive(Clone, Copy)]
 pub enum MaybeU32 {
     Absent,
     Present(u32),
 }
 
-#[derive(Drop)]
+#[derive(Clone, Copy)]
 pub enum OffBy {
     Nobody,
     Group(i32),
 }
 
-#[derive(Drop)]
+#[derive(Clone, Copy)]
 pub enum LoopPoints {
     Unlooped,
     Looped { start: u32, end: u32 },
 }
 
-#[derive(Drop)]
+#[derive(Clone, Copy)]
 pub enum Seq {
     EveryTime,
     InTurn { length: u32, position: u32 },
 }
 
-#[derive(Drop)]
+#[derive(Clone, Copy)]
 pub enum Rand {
     AnyDraw,
     Within { lo: f32, hi: f32 },
 }
 
-#[derive(Drop)]
+#[derive(Clone, Copy)]
 pub struct VelCrossfade {
     pub in_lo: f32,
     pub in_hi: f32,
@@ -104,13 +104,13 @@ pub struct VelCrossfade {
     pub gain_curve: bool,
 }
 
-#[derive(Drop)]
+#[derive(Clone, Copy)]
 pub enum XfVel {
     NoCrossfade,
     Crossfade(VelCrossfade),
 }
 
-#[derive(Drop)]
+#[derive(Clone, Copy)]
 pub struct Envelope {
     pub delay: f32,
     pub attack: f32,
@@ -121,7 +121,7 @@ pub struct Envelope {
     pub start: f32,
 }
 
-#[derive(Drop)]
+#[derive(Clone, Copy)]
 pub struct Filter {
     pub kind: FilterKind,
     pub cutoff: f32,
@@ -132,7 +132,7 @@ pub struct Filter {
     pub gain: f32,
 }
 
-#[derive(Drop)]
+#[derive(Clone, Copy)]
 pub struct EqBand {
     pub kind: EqKind,
     pub freq: f32,
@@ -143,7 +143,7 @@ pub struct EqBand {
 }
 
 // Key and velocity windows, bounds included.
-#[derive(Drop)]
+#[derive(Clone, Copy)]
 pub struct Window {
     pub lokey: u8,
     pub hikey: u8,
@@ -152,7 +152,7 @@ pub struct Window {
 }
 
 // Cents per key, cents and keys.
-#[derive(Drop)]
+#[derive(Clone, Copy)]
 pub struct Pitch {
     pub pitch_keycenter: u8,
     pub pitch_keytrack: f32,
@@ -163,7 +163,7 @@ pub struct Pitch {
 }
 
 // Which frames are played, and after which delay in seconds.
-#[derive(Drop)]
+#[derive(Clone, Copy)]
 pub struct Playback {
     pub offset_frames: u32,
     pub end_frames: MaybeU32,
@@ -174,7 +174,7 @@ pub struct Playback {
 }
 
 // How loud and where: decibels and percent. The velocity points stay in the words.
-#[derive(Drop)]
+#[derive(Clone, Copy)]
 pub struct Level {
     pub volume_db: f32,
     pub amp_random_db: f32,
@@ -187,7 +187,7 @@ pub struct Level {
 }
 
 // When a note starts the region.
-#[derive(Drop)]
+#[derive(Clone, Copy)]
 pub struct Choice {
     pub trigger: Trigger,
     pub seq: Seq,
@@ -195,7 +195,7 @@ pub struct Choice {
 }
 
 // What marks and what it marks.
-#[derive(Drop)]
+#[derive(Clone, Copy)]
 pub struct Choke {
     pub group: i32,
     pub off_by: OffBy,
@@ -206,7 +206,7 @@ pub struct Choke {
 }
 
 // The Rust's `Region`, its fields in groups. A `Vec` is a count and places.
-#[derive(Drop)]
+#[derive(Clone, Copy)]
 pub struct Region {
     pub sample: u32,
     pub window: Window,

@@ -9,7 +9,7 @@ use super::region::float_of;
 pub const SAMPLE_WORDS: usize = 4;
 
 // `rate` in Hz; `frames` per channel; `start`, the first frame's place among those lent. Channel 1 follows channel 0.
-#[derive(Drop)]
+#[derive(Clone, Copy)]
 pub struct Sample {
     pub rate: f32,
     pub channels: u32,

@@ -1,5 +1,6 @@
 // Binds programs at the edge of each limit and one past it, and prints what binding says: 01's number, 0 where it binds, and the region or
 // sample that goes with it, 0 where none does.
+#![tactic(auto)]
 use libc::STDOUT_FILENO;
 use program::bind::{Bound, bind};
 

@@ -19,7 +19,7 @@ use lanes::four::{Four, Starts, sinc_four, sinc_four_pair};
 use player::{Cold, Hot, MaybeLoop};
 
 // Four positions, each a step after the one before.
-#[derive(Drop)]
+#[derive(Clone, Copy)]
 pub struct Next {
     pub p0: f64,
     pub p1: f64,

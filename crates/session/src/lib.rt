@@ -1,5 +1,6 @@
 // The session: the state that a program's voices share, by value. Its list of records, one for each sounding region of some voice,
 // is what chokes and polyphony limits act on. Voices stand above it and rely on these promises alone.
+#![tactic(auto)]
 ghost use Rattle.std.specs.Prelude.{◌≡◌, ◌≤◌, true, false, not, [], length, drop, slice_index_or};
 ghost use Rattle.session.specs.Lists.{used_of, keep, elem, twice};
 ghost use Rattle.session.specs.Records.{marked, ended, collected, entered, same_z, off_by_is, shares_both, choked_by, shares_note, may_yield, of_region, is_sister, quieter, older, of_voice, in_slots, waits, in_window};
@@ -10,21 +11,21 @@ ghost use Rattle.session.specs.Tests.{is_live, over_live, twice_live, stray_reco
 ghost use Rattle.session.specs.State.{view, relist, no_start, start_list, started_many, slot_list, live_ids, with_voices, opened, freed, with_seq, seq_stepped, seq_hit, serial_up, held_up, held_down, ended_voice, closed_voice, no_record, fresh_session, has_place, placed};
 
 // A group that turns a record off, or none.
-#[derive(Drop)]
+#[derive(Clone, Copy)]
 pub enum OffBy {
     Nobody,
     Group(i32),
 }
 
 // The absolute sample time at which a pending off takes effect, or none.
-#[derive(Drop)]
+#[derive(Clone, Copy)]
 pub enum OffAt {
     Never,
     At(u64),
 }
 
 // A polyphony limit, or none.
-#[derive(Drop)]
+#[derive(Clone, Copy)]
 pub enum Limit {
     Unlimited,
     Most(u32),
@@ -32,7 +33,7 @@ pub enum Limit {
 
 // One sounding region of some voice, as the program's other voices see it. The small fields stand together, so that a record takes 56
 // bytes and not 64: it is copied often (docs/SPEED.md).
-#[derive(Drop)]
+#[derive(Clone, Copy)]
 pub struct PlayerRecord {
     pub voice: u64,
     pub slot: u32,
@@ -48,21 +49,21 @@ pub struct PlayerRecord {
 }
 
 // For each region its sequence counter, and whether its position was hit at the last note-on of a key in its range.
-#[derive(Drop)]
+#[derive(Clone, Copy)]
 pub struct Sequences {
     pub seq_counter: [u32; 256],
     pub seq_on: [bool; 256],
 }
 
 // The ids of the live voices, and the next id.
-#[derive(Drop)]
+#[derive(Clone, Copy)]
 pub struct LiveVoices {
     pub ids: [u64; 16],
     pub count: usize,
     pub next_voice: u64,
 }
 
-#[derive(Drop)]
+#[derive(Clone, Copy)]
 pub struct Session {
     pub players: [PlayerRecord; 512],
     pub count: usize,
@@ -73,7 +74,7 @@ pub struct Session {
 }
 
 // A region that starts: what its record will hold, the time, and its limits.
-#[derive(Drop)]
+#[derive(Clone, Copy)]
 pub struct Start {
     pub voice: u64,
     pub region: u32,
@@ -96,14 +97,14 @@ pub struct Starts {
 }
 
 // Slots of a voice's players, in order.
-#[derive(Drop)]
+#[derive(Clone, Copy)]
 pub struct Slots {
     pub slots: [u32; 32],
     pub count: usize,
 }
 
 // The keys and velocities of a region.
-#[derive(Drop)]
+#[derive(Clone, Copy)]
 pub struct Window {
     pub lokey: u8,
     pub hikey: u8,
@@ -112,13 +113,13 @@ pub struct Window {
 }
 
 // A slot, and the time at which it is turned off.
-#[derive(Drop)]
+#[derive(Clone, Copy)]
 pub struct Off {
     pub slot: u32,
     pub at: u64,
 }
 
-#[derive(Drop)]
+#[derive(Clone, Copy)]
 pub struct Offs {
     pub offs: [Off; 32],
     pub count: usize,
@@ -341,7 +342,7 @@ pub fn off_with_sisters(s: Session, voice: u64, start: u64, at: u64) -> Session
 }
 
 // What the records that a limit is about share with the start: group and note, or the region.
-#[derive(Drop)]
+#[derive(Clone, Copy)]
 enum Sharing {
     Note,
     Region,
@@ -683,7 +684,7 @@ fn in_slots(r: PlayerRecord, voice: u64, ks: Slots) -> bool
 }
 
 // Which records are removed: all of the voice's, or those in the slots.
-#[derive(Drop)]
+#[derive(Clone, Copy)]
 struct Removal {
     voice: u64,
     all: bool,

@@ -11,6 +11,7 @@
 //   J,what,place,value   one number of the session is set        8,regions,voice,count,slot..    the tests of its form are printed
 //
 // `-` is none; the group -1 is written as its 32 bits; `trigger` counts as the Rust's enum, attack first.
+#![tactic(auto)]
 ghost use Rattle.std.specs.Prelude.{◌≤◌, ◌<◌, ◌+◌, length};
 
 use libc::STDOUT_FILENO;
