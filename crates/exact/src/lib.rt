@@ -2,6 +2,7 @@
 // over the IEEE 754 values of the logic, for every input.
 
 #![tactic(auto)]
+
 pub mod cast;
 pub mod format;
 pub mod integral;

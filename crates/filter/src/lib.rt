@@ -3,6 +3,7 @@
 // keeps its last input and output in the first two. A slot has one shape for its life and all states are 0 at its start,
 // so the two uses never meet.
 #![tactic(auto)]
+
 ghost use Rattle.std.specs.Prelude.{◌≡◌, ◌+◌, ◌*◌, ◌≤◌, ◌<◌};
 ghost use Rattle.filter.specs.Filter.{Ticked, Paired, stage_at, stages, stage_count, ticked, pair_ticked, chained, AllStages};
 

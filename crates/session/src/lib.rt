@@ -1,6 +1,7 @@
 // The session: the state that a program's voices share, by value. Its list of records, one for each sounding region of some voice,
 // is what chokes and polyphony limits act on. Voices stand above it and rely on these promises alone.
 #![tactic(auto)]
+
 ghost use Rattle.std.specs.Prelude.{◌≡◌, ◌≤◌, true, false, not, [], length, drop, slice_index_or};
 ghost use Rattle.session.specs.Lists.{used_of, keep, elem, twice};
 ghost use Rattle.session.specs.Records.{marked, ended, collected, entered, same_z, off_by_is, shares_both, choked_by, shares_note, may_yield, of_region, is_sister, quieter, older, of_voice, in_slots, waits, in_window};

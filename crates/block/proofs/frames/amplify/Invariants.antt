@@ -1,0 +1,12 @@
+use Rattle.block.proofs.Framing.{times_to, times-step, times-done}
+use lib.ListN.{length, length-set}
+use native.Mathlib.Omega.{arith}
+use mathlib.Core.Path.{◌≡◌, refl, ◌∙◌}
+use Prim.Native.Nat.{◌-◌}
+use Rattle.block.proofs.frames.amplify.Given as goal
+
+abbrev pub invariant-loop-i : goal.invariant-loop-i
+invariant-loop-i l = (length l.xs ≡ length l.initial.xs) × (l.xs ≡ times_to l.i l.initial.xs l.amp)
+
+abbrev pub decreases-loop-i : goal.decreases-loop-i
+decreases-loop-i l = length l.initial.xs - l.i

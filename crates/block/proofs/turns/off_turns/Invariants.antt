@@ -1,0 +1,16 @@
+use Rattle.events.specs.Voice.{Kit}
+use Rattle.block.proofs.Scenes.{turn-count, turns_more, turns-over}
+use Rattle.block.specs.Ready.{PlayingOk}
+use Rattle.block.specs.Block.{off_list, falls_on, off_turns}
+use Rattle.block.specs.declared.Playing.{Playing}
+use Rattle.session.specs.Offs.{first_at}
+use native.Mathlib.Omega.{arith}
+use Prim.Native.Nat.{◌-◌}
+use mathlib.Core.Path.{◌≡◌, refl, sym, ap, ◌∙◌}
+use Rattle.block.proofs.turns.off_turns.Given as goal
+
+abbrev pub invariant-loop-j : goal.invariant-loop-j
+invariant-loop-j l = PlayingOk l.words l.q × (l.n ≡ l.q.offs.count) × (l.j ≡ first_at (falls_on l.t l.i) (off_list l.q.offs)) × (off_turns (record { words = l.words; samples = l.samples }) l.t l.i l.initial.n l.initial.q ≡ off_turns (record { words = l.words; samples = l.samples }) l.t l.i l.n l.q)
+
+abbrev pub decreases-loop-j : goal.decreases-loop-j
+decreases-loop-j l = l.n

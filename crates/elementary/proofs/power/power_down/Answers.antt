@@ -1,0 +1,20 @@
+use Rattle.std.proofs.Common.{le_trans, le_of_eq, arith, lit≤, rules}
+use lib.Ieee.{binary64}
+use lib.Ieee.Positive.{num, den, den_pos}
+use Rattle.exact.proofs.Integrals.{whole_float}
+use Rattle.elementary.specs.Kernel.{power_down}
+use Rattle.elementary.proofs.Whole.{ceil-le}
+use Rattle.elementary.proofs.power.power_down.Goals as goal
+
+pub int_to_float-whole : goal.int_to_float-whole
+int_to_float-whole c = whole_float binary64 c.ceiling-n.result (le_trans (le_of_eq c.ceiling-n.ensures) (le_trans (ceil-le 128 (num c.args.y) (den c.args.y) (den_pos c.args.y) c.requires.most) (lit≤ tt)))
+
+pub overflow_sub-n : goal.overflow_sub-n
+overflow_sub-n c = le_trans (le_of_eq c.ceiling-n.ensures) (le_trans (ceil-le 128 (num c.args.y) (den c.args.y) (den_pos c.args.y) c.requires.most) (lit≤ tt))
+
+pub scale-requires : goal.scale-requires
+scale-requires c = let both = omega (arith, c.ceiling-n.ensures, ceil-le 128 (num c.args.y) (den c.args.y) (den_pos c.args.y) c.requires.most) in record { fact_1 = both.0; fact_2 = both.1 }
+
+pub returns : goal.returns
+unfolding power_down
+returns c = rw (c.series.ensures, c.scale.ensures, c.ceiling-n.ensures)

@@ -1,0 +1,38 @@
+use Rattle.std.proofs.Common.{T, rules}
+use lib.Ieee.{fits, binary32, binary64, of_bits, div, mul}
+use Rattle.exact.specs.Narrow.{narrowed}
+use Rattle.exact.proofs.Value.{plus-no-nan}
+use Rattle.exact.proofs.Narrowing.{to-double}
+use Rattle.exact.proofs.Integrals.{yes}
+use Rattle.elementary.specs.Trigonometric.{sine_sum}
+use Rattle.elementary.specs.Functions.{sin_of}
+use Rattle.elementary.proofs.SineCosine.{sine-absolute}
+use Rattle.elementary.proofs.SineRelative.{sine-relative}
+use Rattle.elementary.proofs.FromZero.{above-range, below-range, argument, up_to, at-argument, no-sine, sine-low}
+use Rattle.elementary.proofs.trig.sin.Goals as goal
+
+pub returns-then-x : goal.returns-then-x
+unfolding sin_of of_bits div
+returns-then-x c = (simp c.if-x.true, no-sine c.args.x (above-range c.args.x (yes c.well_formed.0.1) (yes c.if-x.true)))
+
+pub float_to_float-y : goal.float_to_float-y
+unfolding of_bits
+float_to_float-y c = let x = c.args.x in
+    to-double x (yes c.well_formed.0.1) (plus-no-nan x (argument x c.if-x.false (yes c.if-x-2.true)).sign)
+
+pub returns-then-x-2 : goal.returns-then-x-2
+unfolding sin_of of_bits
+returns-then-x-2 c = let x = c.args.x in
+    let S = argument x c.if-x.false (yes c.if-x-2.true) in (
+      rw (c.if-x.false, c.if-x-2.true, c.narrow.ensures, c.sine_minus.ensures, c.sine_plus.ensures),
+      rw (c.narrow.ensures, c.sine_minus.ensures, c.sine_plus.ensures)
+          (record { series = at-argument 1 x (narrowed (mul binary64 x (sine_sum x))) S (sine-absolute x S); part = λ h. sine-relative x S (up_to x S h) }),
+    )
+
+pub returns-then-x-3 : goal.returns-then-x-3
+unfolding sin_of of_bits
+returns-then-x-3 c = (simp (c.if-x.false, c.if-x-2.false, c.if-x-3.true), sine-low c.args.x c.if-x-2.false (yes c.if-x-3.true))
+
+pub returns : goal.returns
+unfolding sin_of of_bits div
+returns c = (simp (c.if-x.false, c.if-x-2.false, c.if-x-3.false), no-sine c.args.x (below-range c.args.x c.if-x-3.false))

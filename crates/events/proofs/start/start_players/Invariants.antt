@@ -1,0 +1,15 @@
+use Rattle.std.proofs.Common.{◌≡◌, ◌-◌, ◌≤◌, length, take, sym, refl, ◌∙◌, subst, ⊎_elim, arith, rules}
+use mathlib.Core.List.{foldl}
+use Rattle.players.proofs.Kept.{seated-ok}
+use Rattle.players.specs.Seats.{PlayersOk}
+use Rattle.session.proofs.Walks.{fold_done, fold_step, long, used-below}
+use Rattle.events.proofs.Split.{carried, started_voice, voice-drops, voice-joins, voices-all}
+use Rattle.events.specs.Voice.{Kit}
+use Rattle.events.proofs.start.start_players.Given as goal
+
+abbrev pub invariant-loop-i : goal.invariant-loop-i
+invariant-loop-i l = (l.i ≤ l.n) × (l.n ≤ 256) × (length l.chosen.regions ≡ 256)
+    × (carried l.ps l.next l.dropped l.v ≡ foldl (started_voice (record { words = l.words; samples = l.samples }) l.ns l.c) l.v (take l.i l.chosen.regions)) × PlayersOk l.ps
+
+abbrev pub decreases-loop-i : goal.decreases-loop-i
+decreases-loop-i l = l.n - l.i

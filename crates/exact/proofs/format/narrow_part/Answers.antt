@@ -1,0 +1,13 @@
+use Rattle.std.proofs.Common.{T, sym, subst, arith, rules}
+use lib.Ieee.{fits, binary64}
+use Rattle.exact.proofs.Narrowing.{no_nan, small-no-nan, done-plus}
+use Rattle.exact.proofs.format.narrow_part.Goals as goal
+
+pub float_to_bits-bits : goal.float_to_bits-bits
+float_to_bits-bits c = no_nan c.args.x c.if-x.false
+
+pub float_from_bits-result : goal.float_from_bits-result
+float_from_bits-result c = small-no-nan c.part_bits.result c.part_bits.ensures.1
+
+pub returns-then-bits-le4607182418800017408 : goal.returns-then-bits-le4607182418800017408
+returns-then-bits-le4607182418800017408 c = done-plus c.args.x c.part_bits.result (subst T (sym c.well_formed.0.1) tt) c.part_bits.ensures.0

@@ -1,0 +1,13 @@
+use mathlib.Core.Path.{◌≡◌, refl, ap, ◌∙◌}
+use Prim.Native.Nat.{◌≤◌, ◌-◌}
+use native.Mathlib.Nat.{le_antisymm}
+use native.Mathlib.Numerals.{add-one}
+use native.Mathlib.Omega.{arith}
+use Rattle.filter.specs.Filter.{Paired, pair_ticked, chained}
+use Rattle.filter.proofs.chain.Given as goal
+
+abbrev pub invariant-loop-k : goal.invariant-loop-k
+invariant-loop-k l = (l.k ≤ l.count) × (◌≡◌ {A = Paired} (record { l = l.w.l; r = l.w.r; states = l.states }) (chained l.slots l.stereo l.k (record { l = l.initial.w.l; r = l.initial.w.r; states = l.initial.states })))
+
+abbrev pub decreases-loop-k : goal.decreases-loop-k
+decreases-loop-k l = l.count - l.k

@@ -1,0 +1,7 @@
+use Rattle.filter_design.specs.Cookbook.{angle_of}
+use borrow.Author.Rules.{rules}
+use Rattle.filter_design.proofs.cookbook.biquad_params.Goals as goal
+
+pub returns : goal.returns
+unfolding angle_of
+returns c = rw (c.cos-cos_w0.ensures.0, c.sin-sin_w0.ensures.0)

@@ -1,0 +1,16 @@
+use Rattle.gain.specs.Gain.{faded_in}
+use mathlib.Core.Logic.{⊎_elim}
+use borrow.Author.Rules.{rules}
+use Rattle.gain.proofs.fade_in.Goals as goal
+
+pub returns-then-v-xf : goal.returns-then-v-xf
+unfolding faded_in
+returns-then-v-xf c = simp c.if-v-xf.true
+
+pub returns-then-v-xf-2 : goal.returns-then-v-xf-2
+unfolding faded_in
+returns-then-v-xf-2 c = simp (c.if-v-xf.false, c.if-len.true, c.if-v-xf-2.true, c.fade_shape.ensures)
+
+pub returns : goal.returns
+unfolding faded_in
+returns c = elim c.else-len.branch [ thense-len w ↦ rw (c.if-v-xf.false, w.else-len.true, w.EQ1.left) | elsese-len w ↦ rw (c.if-v-xf.false, w.left) ]

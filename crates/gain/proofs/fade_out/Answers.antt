@@ -1,0 +1,16 @@
+use Rattle.gain.specs.Gain.{faded_out}
+use mathlib.Core.Logic.{⊎_elim}
+use borrow.Author.Rules.{rules}
+use Rattle.gain.proofs.fade_out.Goals as goal
+
+pub returns-then-pos : goal.returns-then-pos
+unfolding faded_out
+returns-then-pos c = rw (c.if-len.true, c.if-v-xf.true, c.if-pos.true)
+
+pub returns-then-v-xf : goal.returns-then-v-xf
+unfolding faded_out
+returns-then-v-xf c = rw (c.if-len.true, c.if-v-xf.true, c.if-pos.false, c.fade_shape.ensures)
+
+pub returns : goal.returns
+unfolding faded_out
+returns c = elim c.else-len.branch [ thense-len w ↦ rw (w.else-len.true, w.EQ1.left) | elsese-len w ↦ rw w.left ]

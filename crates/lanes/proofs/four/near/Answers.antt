@@ -1,0 +1,11 @@
+use Rattle.interp.specs.Places.{place_of}
+use borrow.Author.Rules.{rules}
+use Rattle.lanes.proofs.four.near.Goals as goal
+
+pub returns-then-u : goal.returns-then-u
+unfolding place_of
+returns-then-u c = rw (← c.size-u.ensures, c.if-u.true)
+
+pub returns-else-u : goal.returns-else-u
+unfolding place_of
+returns-else-u c = rw (← c.size-u.ensures, c.if-u.false)

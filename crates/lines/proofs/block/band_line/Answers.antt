@@ -1,0 +1,15 @@
+use mathlib.Core.Path.{◌≡◌, refl, sym, ap, ◌∙◌}
+use borrow.Author.Tests.{not-true, not-false}
+use Rattle.lines.proofs.Readings.{pick_yes, pick_no}
+use Rattle.lines.specs.Block.{band_line}
+use Rattle.lines.specs.Rows.{rows}
+use borrow.Author.Rules.{rules}
+use Rattle.lines.proofs.block.band_line.Goals as goal
+
+pub returns-then-not-line_fits : goal.returns-then-not-line_fits
+unfolding band_line rows
+returns-then-not-line_fits c = pick_no _ (sym c.line_fits.ensures ∙ not-true _ c.if-not-line_fits.true-raw) refl
+
+pub returns : goal.returns
+unfolding band_line rows
+returns c = pick_yes _ (sym c.line_fits.ensures ∙ not-false _ c.if-not-line_fits.false-raw) refl

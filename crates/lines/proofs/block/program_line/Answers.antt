@@ -1,0 +1,33 @@
+use mathlib.Core.Path.{◌≡◌, refl, sym, ap, ◌∙◌}
+use Rattle.lines.proofs.Readings.{pick_yes, pick_no}
+use Rattle.lines.specs.Block.{program_line}
+use borrow.Author.Rules.{rules}
+use Rattle.lines.proofs.block.program_line.Goals as goal
+
+pub returns-then-is_byte : goal.returns-then-is_byte
+unfolding program_line
+returns-then-is_byte c = pick_yes _ (sym c.is_byte.ensures ∙ c.if-is_byte.true) c.entry_line.ensures
+
+pub returns-then-is_byte-2 : goal.returns-then-is_byte-2
+unfolding program_line
+returns-then-is_byte-2 c = pick_no _ (sym c.is_byte.ensures ∙ c.if-is_byte.false) (pick_yes _ (sym c.is_byte-2.ensures ∙ c.if-is_byte-2.true) c.sample_line.ensures)
+
+pub returns-then-is_byte-3 : goal.returns-then-is_byte-3
+unfolding program_line
+returns-then-is_byte-3 c = pick_no _ (sym c.is_byte.ensures ∙ c.if-is_byte.false) (pick_no _ (sym c.is_byte-2.ensures ∙ c.if-is_byte-2.false) (pick_yes _ (sym c.is_byte-3.ensures ∙ c.if-is_byte-3.true) c.region_line.ensures))
+
+pub returns-then-is_byte-4 : goal.returns-then-is_byte-4
+unfolding program_line
+returns-then-is_byte-4 c = pick_no _ (sym c.is_byte.ensures ∙ c.if-is_byte.false) (pick_no _ (sym c.is_byte-2.ensures ∙ c.if-is_byte-2.false) (pick_no _ (sym c.is_byte-3.ensures ∙ c.if-is_byte-3.false) (pick_yes _ (sym c.is_byte-4.ensures ∙ c.if-is_byte-4.true) c.point_line.ensures)))
+
+pub returns-then-is_byte-5 : goal.returns-then-is_byte-5
+unfolding program_line
+returns-then-is_byte-5 c = pick_no _ (sym c.is_byte.ensures ∙ c.if-is_byte.false) (pick_no _ (sym c.is_byte-2.ensures ∙ c.if-is_byte-2.false) (pick_no _ (sym c.is_byte-3.ensures ∙ c.if-is_byte-3.false) (pick_no _ (sym c.is_byte-4.ensures ∙ c.if-is_byte-4.false) (pick_yes _ (sym c.is_byte-5.ensures ∙ c.if-is_byte-5.true) c.filter_line.ensures))))
+
+pub returns-then-is_byte-6 : goal.returns-then-is_byte-6
+unfolding program_line
+returns-then-is_byte-6 c = pick_no _ (sym c.is_byte.ensures ∙ c.if-is_byte.false) (pick_no _ (sym c.is_byte-2.ensures ∙ c.if-is_byte-2.false) (pick_no _ (sym c.is_byte-3.ensures ∙ c.if-is_byte-3.false) (pick_no _ (sym c.is_byte-4.ensures ∙ c.if-is_byte-4.false) (pick_no _ (sym c.is_byte-5.ensures ∙ c.if-is_byte-5.false) (pick_yes _ (sym c.is_byte-6.ensures ∙ c.if-is_byte-6.true) c.band_line.ensures)))))
+
+pub returns : goal.returns
+unfolding program_line
+returns c = pick_no _ (sym c.is_byte.ensures ∙ c.if-is_byte.false) (pick_no _ (sym c.is_byte-2.ensures ∙ c.if-is_byte-2.false) (pick_no _ (sym c.is_byte-3.ensures ∙ c.if-is_byte-3.false) (pick_no _ (sym c.is_byte-4.ensures ∙ c.if-is_byte-4.false) (pick_no _ (sym c.is_byte-5.ensures ∙ c.if-is_byte-5.false) (pick_no _ (sym c.is_byte-6.ensures ∙ c.if-is_byte-6.false) refl)))))

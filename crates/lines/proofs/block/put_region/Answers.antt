@@ -1,0 +1,6 @@
+use Rattle.lines.proofs.Tables.{region-rows}
+use borrow.Author.Rules.{rules}
+use Rattle.lines.proofs.block.put_region.Goals as goal
+
+pub returns : goal.returns
+returns c = cc region-rows

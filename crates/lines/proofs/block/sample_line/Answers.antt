@@ -1,0 +1,14 @@
+use mathlib.Core.Path.{◌≡◌, refl, sym, ap, ◌∙◌}
+use borrow.Author.Tests.{not-true, not-false}
+use Rattle.lines.proofs.Readings.{pick_yes, pick_no}
+use Rattle.lines.specs.Block.{sample_line}
+use borrow.Author.Rules.{rules}
+use Rattle.lines.proofs.block.sample_line.Goals as goal
+
+pub returns-then-not-sample_fits : goal.returns-then-not-sample_fits
+unfolding sample_line
+returns-then-not-sample_fits c = pick_no _ (sym c.sample_fits.ensures ∙ not-true _ c.if-not-sample_fits.true-raw) refl
+
+pub returns : goal.returns
+unfolding sample_line
+returns c = pick_yes _ (sym c.sample_fits.ensures ∙ not-false _ c.if-not-sample_fits.false-raw) (cc)

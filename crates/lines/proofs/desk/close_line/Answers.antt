@@ -1,0 +1,14 @@
+use mathlib.Core.Path.{refl, sym, ◌∙◌}
+use borrow.Author.Tests.{not-true, not-false}
+use Rattle.lines.proofs.Readings.{pick_yes, pick_no}
+use Rattle.lines.specs.Desk.{close_line}
+use borrow.Author.Rules.{rules}
+use Rattle.lines.proofs.desk.close_line.Goals as goal
+
+pub returns-then-not-names_voice : goal.returns-then-not-names_voice
+unfolding close_line
+returns-then-not-names_voice c = pick_no _ (sym c.names_voice.ensures ∙ not-true _ c.if-not-names_voice.true-raw) refl
+
+pub returns : goal.returns
+unfolding close_line
+returns c = pick_yes _ (sym c.names_voice.ensures ∙ not-false _ c.if-not-names_voice.false-raw) (cc)

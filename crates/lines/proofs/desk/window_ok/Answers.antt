@@ -1,0 +1,18 @@
+use mathlib.Core.Path.{sym, ◌∙◌}
+use borrow.Author.Tests.{not-true, not-false}
+use Rattle.program.proofs.Checks.{every-no, after, final}
+use Rattle.lines.specs.Desk.{window_tests}
+use borrow.Author.Rules.{rules}
+use Rattle.lines.proofs.desk.window_ok.Goals as goal
+
+pub returns-then-not-is_number : goal.returns-then-not-is_number
+returns-then-not-is_number c = every-no (window_tests c.args.line.now) 0 (sym c.is_number.ensures ∙ not-true _ c.if-not-is_number.true-raw)
+
+pub returns-then-not-is_number-2 : goal.returns-then-not-is_number-2
+returns-then-not-is_number-2 c = every-no (window_tests c.args.line.now) 1 (sym c.is_number-2.ensures ∙ not-true _ c.if-not-is_number-2.true-raw)
+
+pub returns-then-not-is_number-3 : goal.returns-then-not-is_number-3
+returns-then-not-is_number-3 c = every-no (window_tests c.args.line.now) 2 (sym c.is_number-3.ensures ∙ not-true _ c.if-not-is_number-3.true-raw)
+
+pub returns : goal.returns
+returns c = after (sym c.is_number.ensures ∙ not-false _ c.if-not-is_number.false-raw) (after (sym c.is_number-2.ensures ∙ not-false _ c.if-not-is_number-2.false-raw) (after (sym c.is_number-3.ensures ∙ not-false _ c.if-not-is_number-3.false-raw) (final c.is_number-4.ensures)))

@@ -1,0 +1,6 @@
+use mathlib.Core.Path.{sym, ◌∙◌}
+use borrow.Author.Rules.{rules}
+use Rattle.lines.proofs.field.field.Goals as goal
+
+pub returns : goal.returns
+returns c = c.end_of-b.ensures.2 ∙ sym c.start_of-a.ensures.1

@@ -1,0 +1,15 @@
+use mathlib.Core.Path.{◌≡◌, refl, sym, ap, ◌∙◌}
+use borrow.Author.Tests.{not-true, not-false}
+use Rattle.program.proofs.Checks.{after}
+use Rattle.lines.specs.Rows.{line_fits}
+use Rattle.lines.proofs.Tables.{and_no}
+use borrow.Author.Rules.{rules}
+use Rattle.lines.proofs.rows.line_fits.Goals as goal
+
+pub returns-then-not-has_fields : goal.returns-then-not-has_fields
+unfolding line_fits
+returns-then-not-has_fields c = and_no _ (sym c.has_fields.ensures ∙ not-true _ c.if-not-has_fields.true-raw)
+
+pub returns : goal.returns
+unfolding line_fits
+returns c = after (sym c.has_fields.ensures ∙ not-false _ c.if-not-has_fields.false-raw) c.fields_fit.ensures

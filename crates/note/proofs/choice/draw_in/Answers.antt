@@ -1,0 +1,13 @@
+use lib.Ieee.{le, lt}
+use borrow.Author.Tests.{not-true, not-false}
+use mathlib.Core.Path.{refl}
+use Rattle.program.proofs.Lookups.{no-and}
+use Rattle.program.proofs.Checks.{after}
+use borrow.Author.Rules.{rules}
+use Rattle.note.proofs.choice.draw_in.Goals as goal
+
+pub returns-then-not-lo-draw : goal.returns-then-not-lo-draw
+returns-then-not-lo-draw c = let v = c.r-1.given.0 in rw c.in-Within.is (no-and {a = le v.0 c.args.draw} (lt c.args.draw v.1.0) (not-true _ c.if-not-lo-draw.true-raw))
+
+pub returns-else-not-lo-draw : goal.returns-else-not-lo-draw
+returns-else-not-lo-draw c = let v = c.r-1.given.0 in rw c.in-Within.is (after {a = le v.0 c.args.draw} (not-false _ c.if-not-lo-draw.false-raw) refl)

@@ -1,0 +1,14 @@
+use Rattle.player.specs.Pitch.{held_step}
+use Rattle.player.proofs.pitch.held_step.Goals as goal
+
+pub returns-then-s-2 : goal.returns-then-s-2
+unfolding held_step
+returns-then-s-2 c = rw (c.if-s.true, c.if-s-2.true)
+
+pub returns-then-s : goal.returns-then-s
+unfolding held_step
+returns-then-s c = rw (c.if-s.true, c.if-s-2.false)
+
+pub returns : goal.returns
+unfolding held_step
+returns c = rw c.if-s.false

@@ -1,0 +1,7 @@
+use Rattle.player.specs.Pitch.{step_of}
+use borrow.Author.Rules.{rules}
+use Rattle.player.proofs.pitch.step_of.Goals as goal
+
+pub returns : goal.returns
+unfolding step_of
+returns c = rw (c.held_step.ensures, c.widen.ensures, c.cents_factor.ensures, c.bend_cents.ensures)

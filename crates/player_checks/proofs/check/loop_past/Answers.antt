@@ -1,0 +1,7 @@
+use borrow.Author.Rules.{rules}
+use mathlib.Core.Path.{ap, sym}
+use Rattle.player_checks.specs.Sound.{loop_past}
+use Rattle.player_checks.proofs.check.loop_past.Goals as goal
+
+pub returns-in-Present : goal.returns-in-Present
+returns-in-Present c = ap (loop_past c.args.n) (sym c.in-Present.is)

@@ -1,0 +1,19 @@
+use borrow.Author.Rules.{rules}
+use Prim.Native.Nat.{◌-◌, ◌≤◌}
+use mathlib.Core.Path.{◌≡◌, refl, sym, ap, ◌∙◌}
+use native.Mathlib.Omega.{arith}
+use borrow.Author.Tests.{not-true, not-false}
+use mathlib.Core.List.{map}
+use lib.ListN.{length, take}
+use Rattle.program.specs.Valid.{every}
+use Rattle.session.proofs.Walks.{long, used-below}
+use Rattle.players.specs.Seats.{no_player}
+use Rattle.player_checks.specs.Sound.{sample_fits, samples_fit}
+use Rattle.players.proofs.Passing.{left_of, passes, fails, ends}
+use Rattle.player_checks.proofs.check.samples_fit.Given as goal
+
+abbrev pub invariant-loop-k : goal.invariant-loop-k
+invariant-loop-k l = (l.k ≤ l.n) × (l.n ≤ 32) × (length l.ps.players ≡ 32) × (every (map (sample_fits l.samples) (take l.n l.ps.players)) ≡ left_of (sample_fits l.samples) l.ps.players l.n l.k)
+
+abbrev pub decreases-loop-k : goal.decreases-loop-k
+decreases-loop-k l = l.n - l.k

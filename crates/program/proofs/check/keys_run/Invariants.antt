@@ -1,0 +1,15 @@
+use Rattle.program.proofs.Finite.{Worst, worst-none, worse, no-worse, worst-done, key-word}
+use Rattle.program.specs.Region.{float_of, byte_of}
+use Rattle.program.specs.Valid.{is_finite}
+use Prim.Native.Nat.{ℕ, ◌≤◌, ◌-◌, ◌%◌}
+use mathlib.Core.Logic.{⊎_elim}
+use lib.Dec.{leb}
+use native.Mathlib.Omega.{arith}
+use borrow.Author.Rules.{rules}
+use Rattle.program.proofs.check.keys_run.Given as goal
+
+abbrev pub invariant-loop-k : goal.invariant-loop-k
+invariant-loop-k l = (l.k ≤ l.n) × Worst (λ v. leb v 127) byte_of (λ w. w) 128 key-word l.r l.at l.n l.worst l.k
+
+abbrev pub decreases-loop-k : goal.decreases-loop-k
+decreases-loop-k l = l.n - l.k

@@ -1,0 +1,12 @@
+use Rattle.program.specs.Valid.{every, point_tests}
+use Rattle.program.proofs.Checks.{every-no, final, after}
+use borrow.Author.Tests.{eq-eqb, ne_eqb, lt-leb, le-leb, lt-ltb, le-ltb, not-true, not-false}
+use mathlib.Core.Path.{◌≡◌, refl, sym, ap, ◌∙◌}
+use borrow.Author.Rules.{rules}
+use Rattle.program.proofs.check.points_ok.Goals as goal
+
+pub returns-then-not-keys_run : goal.returns-then-not-keys_run
+returns-then-not-keys_run c = every-no (point_tests c.args.r.now) 0 (sym c.keys_run.ensures ∙ not-true _ c.if-not-keys_run.true-raw)
+
+pub returns : goal.returns
+returns c = after (sym c.keys_run.ensures ∙ not-false _ c.if-not-keys_run.false-raw) (final c.finite_run.ensures)

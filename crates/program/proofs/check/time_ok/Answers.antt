@@ -1,0 +1,5 @@
+use mathlib.Core.Path.{◌≡◌, refl, sym, ap, ◌∙◌}
+use Rattle.program.proofs.check.time_ok.Goals as goal
+
+pub returns : goal.returns
+returns c = cc

@@ -1,0 +1,11 @@
+use Rattle.program.proofs.Checks.{after}
+use Rattle.program.proofs.Lookups.{no-and}
+use borrow.Author.Tests.{eq-eqb, ne_eqb, lt-leb, le-leb, lt-ltb, le-ltb, not-true, not-false}
+use mathlib.Core.Path.{◌≡◌, refl, sym, ap, ◌∙◌}
+use Rattle.program.proofs.lookup.fires.Goals as goal
+
+pub returns-then-not-holds_key : goal.returns-then-not-holds_key
+returns-then-not-holds_key c = no-and _ (sym c.holds_key.ensures ∙ not-true _ c.if-not-holds_key.true-raw)
+
+pub returns : goal.returns
+returns c = after (sym c.holds_key.ensures ∙ not-false _ c.if-not-holds_key.false-raw) c.releases_at.ensures

@@ -1,0 +1,15 @@
+use mathlib.Core.Bool.{not}
+use Rattle.program.specs.Sample.{rate_tests}
+use Rattle.program.proofs.Checks.{every-no, after, final}
+use borrow.Author.Tests.{eq-eqb, ne_eqb, lt-leb, le-leb, lt-ltb, le-ltb, not-true, not-false}
+use mathlib.Core.Path.{◌≡◌, refl, sym, ap, ◌∙◌}
+use Rattle.program.proofs.sample.rate_ok.Goals as goal
+
+pub returns-then-not-is_finite : goal.returns-then-not-is_finite
+returns-then-not-is_finite c = every-no (rate_tests c.args.rate) 0 (sym c.is_finite.ensures ∙ not-true _ c.if-not-is_finite.true-raw)
+
+pub returns-then-rate : goal.returns-then-rate
+returns-then-rate c = every-no (rate_tests c.args.rate) 1 (ap not c.if-rate.true)
+
+pub returns : goal.returns
+returns c = after (sym c.is_finite.ensures ∙ not-false _ c.if-not-is_finite.false-raw) (after (ap not c.if-rate.false) (final refl))

@@ -1,0 +1,18 @@
+use mathlib.Core.Path.{◌≡◌, refl, ap, ◌∙◌}
+use lib.Ieee.{nan}
+use Rattle.exact.specs.Single.{f0}
+use Rattle.segments.proofs.Resting.{one_more}
+use Prim.Native.Nat.{◌≤◌, ◌-◌, ◌+◌}
+use native.Mathlib.Numerals.{add-one}
+use native.Mathlib.Nat.{le_antisymm}
+use native.Mathlib.Omega.{arith}
+use lib.ListN.{length}
+use Rattle.interp.proofs.Frames.{get_d_any}
+use Rattle.segments.specs.Plain.{plain_share, added_run}
+use Rattle.segments.proofs.plain.add_plain.Given as goal
+
+abbrev pub invariant-loop-i : goal.invariant-loop-i
+invariant-loop-i l = (l.i ≤ l.k) × (length l.out ≡ length l.initial.out) × (l.out ≡ added_run (plain_share l.g l.x l.y l.stereo l.a l.b l.p) l.j l.i l.initial.out)
+
+abbrev pub decreases-loop-i : goal.decreases-loop-i
+decreases-loop-i l = l.k - l.i

@@ -1,0 +1,17 @@
+use Rattle.std.proofs.Common.{◌≡◌, ◌-◌, ◌≤◌, true, false, length, take, sym, refl, arith, eq-eqb, ne_eqb}
+use Rattle.session.proofs.Walks.{count-done, count-hit, count-miss, long, used-below}
+use Rattle.session.specs.Lists.{keep}
+use Rattle.session.specs.Records.{of_voice}
+use Rattle.session.proofs.count_voice.Goals as goal
+
+pub loop-i-init : goal.loop-i-init
+loop-i-init c = (omega arith, omega arith, rw c.used-n.ensures (used-below 512 c.args.s.count), c.well_formed.0.1.1.0.1.0.1, refl)
+
+pub loop-i-preserved-then-r-voice : goal.loop-i-preserved-then-r-voice
+loop-i-preserved-then-r-voice c = let a = c.args in (omega arith, omega arith, c.loop-i.invariant.2, c.loop-i.invariant.3, count-hit (of_voice a.voice) a.s.players c.loop-i.i c.loop-i.k _ c.loop-i.invariant.4 (omega (arith, c.loop-i.invariant.3)) true (sym (eq-eqb _ _ c.if-r-voice.true)) refl)
+
+pub loop-i-preserved : goal.loop-i-preserved
+loop-i-preserved c = let a = c.args in (omega arith, omega arith, c.loop-i.invariant.2, c.loop-i.invariant.3, count-miss (of_voice a.voice) a.s.players c.loop-i.i c.loop-i.k _ c.loop-i.invariant.4 (omega (arith, c.loop-i.invariant.3)) false (sym (ne_eqb _ _ c.if-r-voice.false)) refl)
+
+pub returns : goal.returns
+returns c = let a = c.args in count-done _ a.s.players c.loop-i.i c.loop-i.k _ _ c.loop-i.invariant.4 c.loop-i.invariant.0 c.loop-i-test.false c.used-n.ensures

@@ -1,0 +1,11 @@
+use Rattle.std.proofs.Common.{◌≡◌, ◌-◌, ◌≤◌, not, length, refl, ap, arith, eq-eqb, ne_eqb}
+use Rattle.session.proofs.Packing.{Packed, packed_keep, packed_none, packed-skip}
+use Rattle.session.proofs.Voices.{OnlyIds, freed-done, ids_set, others}
+use Rattle.session.proofs.Walks.{long, used-below}
+use Rattle.session.proofs.free.Given as goal
+
+abbrev pub invariant-loop-i : goal.invariant-loop-i
+invariant-loop-i l = (l.i ≤ l.n) × (l.n ≤ 16) × (length l.initial.w.ids ≡ 16) × Packed (others l.id) l.initial.w.ids l.w.ids l.i l.j × OnlyIds l.initial.w l.w
+
+abbrev pub decreases-loop-i : goal.decreases-loop-i
+decreases-loop-i l = l.n - l.i

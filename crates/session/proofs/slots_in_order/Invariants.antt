@@ -1,0 +1,13 @@
+use Rattle.std.proofs.Common.{◌-◌, ◌≤◌, take, refl, ap, ◌∙◌, arith}
+use Rattle.session.proofs.Matching.{Left, left_both, left-differs, left-done, left-none, left_other}
+use Rattle.session.proofs.Walks.{long, used-below}
+use Rattle.session.specs.Rules.{slots_of}
+use Rattle.session.specs.State.{view}
+use Rattle.session.specs.Tests.{same_list, slots_in_order}
+use Rattle.session.proofs.slots_in_order.Given as goal
+
+abbrev pub invariant-loop-i : goal.invariant-loop-i
+invariant-loop-i l = (l.n ≤ 512) × (l.m ≤ 32) × Left l.voice l.n l.m l.s.players l.ks.slots l.i l.j
+
+abbrev pub decreases-loop-i : goal.decreases-loop-i
+decreases-loop-i l = l.n - l.i

@@ -1,0 +1,17 @@
+use Rattle.std.proofs.Common.{◌-◌, ◌≤◌, eqb, take, drop, refl, ap, ◌∙◌, arith, eq-eqb, ne_eqb}
+use Rattle.session.proofs.Search.{Searched, search-found, search-next, search-over}
+use Rattle.session.proofs.Walks.{long, used-below}
+use Rattle.session.specs.Lists.{elem}
+use Rattle.session.proofs.stands_from.Goals as goal
+
+pub loop-i-init : goal.loop-i-init
+loop-i-init c = let h : c.used_places-n.result ≤ 16 = rw c.used_places-n.ensures (used-below 16 c.args.v.count) in let l = c.well_formed.0.1.1.0.1.0.1 in (h, record { fits = omega arith; left = refl })
+
+pub returns-then-v-i : goal.returns-then-v-i
+returns-then-v-i c = let a = c.args in search-found _ _ _ _ _ c.loop-i.invariant.1 _ c.loop-i-test.true (eq-eqb _ _ c.if-v-i.true) ∙ ap (λ m. elem a.id (drop a.from (take m a.v.ids))) c.used_places-n.ensures
+
+pub loop-i-preserved : goal.loop-i-preserved
+loop-i-preserved c = (c.loop-i.invariant.0, search-next _ _ _ _ _ c.loop-i.invariant.1 _ c.loop-i-test.true (ne_eqb _ _ c.if-v-i.false))
+
+pub returns : goal.returns
+returns c = let a = c.args in search-over _ _ _ _ _ c.loop-i.invariant.1 c.loop-i-test.false ∙ ap (λ m. elem a.id (drop a.from (take m a.v.ids))) c.used_places-n.ensures

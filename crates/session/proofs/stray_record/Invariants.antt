@@ -1,0 +1,13 @@
+use Rattle.std.proofs.Common.{◌-◌, ◌≤◌, not, take, sym, refl, ap, ◌∙◌, arith}
+use Rattle.session.proofs.Search.{Searched, search-found, search-next, search-over}
+use Rattle.session.proofs.Walks.{long, used-below}
+use Rattle.session.specs.Lists.{any, elem}
+use Rattle.session.specs.State.{live_ids}
+use Rattle.session.specs.Tests.{stray_record}
+use Rattle.session.proofs.stray_record.Given as goal
+
+abbrev pub invariant-loop-i : goal.invariant-loop-i
+invariant-loop-i l = (l.n ≤ 512) × Searched (λ r. not (elem r.voice (live_ids l.v))) (any (λ r. not (elem r.voice (live_ids l.v))) (take l.n l.s.players)) l.n l.s.players l.i
+
+abbrev pub decreases-loop-i : goal.decreases-loop-i
+decreases-loop-i l = l.n - l.i
