@@ -16,7 +16,7 @@ pub const RESET: u32 = 5;
 pub const CLOSE: u32 = 6;
 
 // That, the voice, and what is told with it.
-#[derive(Drop)]
+#[derive(Clone, Copy)]
 pub struct Call {
     pub kind: u32,
     pub voice: u64,

@@ -3,7 +3,7 @@ use block::Connected;
 use lines::block::Line;
 
 // An input that a line names: its number, the frame from which it is set, the value, whether it is connected after the line.
-#[derive(Drop)]
+#[derive(Clone, Copy)]
 pub struct Wire {
     pub named: bool,
     pub input: u32,

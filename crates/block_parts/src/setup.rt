@@ -9,7 +9,7 @@ use lines::block::{Line, read_block_line};
 use lister::feed::{Feed, LAST, Taken, next_line};
 
 // What a line does to the reading of a program: nothing, or it ends it.
-#[derive(Drop)]
+#[derive(Clone, Copy)]
 pub enum First {
     Nothing,
     Voice(f32),

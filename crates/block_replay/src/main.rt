@@ -2,7 +2,9 @@
 // can be held to what the Rust printed (docs/COMPARISON.md).
 #![tactic(auto)]
 use block_script::perform::perform;
-use libc::STDOUT_FILENO;
+// Standard output.
+const STDOUT_FILENO: i32 = 1;
+
 use lister::feed::{LAST, parted_feed};
 
 fn main() {

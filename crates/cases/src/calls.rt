@@ -1,7 +1,9 @@
 // The public calls on a state: what each answers, and whether a call that is turned back leaves everything as it was.
 use super::same::{same_session, same_voice};
 use events::SampleVoice;
-use libc::STDOUT_FILENO;
+// Standard output.
+const STDOUT_FILENO: i32 = 1;
+
 use program::bind::BoundProgram;
 use session::Session;
 use voice::{Answer, close, is_finished, make, reset};

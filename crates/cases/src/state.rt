@@ -155,7 +155,7 @@ pub fn crowded(v: SampleVoice) -> SampleVoice {
 }
 
 // One number of a player.
-#[derive(Drop)]
+#[derive(Clone, Copy)]
 pub enum Change {
     Region(u32),
     Sample(u32),

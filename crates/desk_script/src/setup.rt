@@ -229,7 +229,7 @@ pub fn read_line(buf: &mut [u8], f: Feed) -> Read {
 }
 
 // What a line does to the reading of samples and regions: nothing, or it ends it.
-#[derive(Drop)]
+#[derive(Clone, Copy)]
 pub enum First {
     Nothing,
     Voice(u32),

@@ -162,6 +162,8 @@ low-range (fin false m e) (Low.positive h) = wider (m * up e) (down e) h
     wider : (a d : ℕ) → 4096 * a ≤ d → 5 * a ≤ 16 * d
     wider a d h = omega arith
 low-range (fin true m e) (Low.negative z) = z
+low-range nan l = elim l [ ]
+low-range (inf _) l = elim l [ ]
 
 pub sine-low : (x : Float) → le least_arg x ≡ false → T (le zero_arg x) → Sine x x
 sine-low x h k = go x (low_of x h k)
@@ -172,10 +174,14 @@ sine-low x h k = go x (low_of x h k)
         near : (x : Float) → Low x → Absolute (plus_terms 1 (value x)) (minus_terms 1 (value x)) x
         near (fin false m e) (Low.positive a) = small-absolute (fin false m e) tt a
         near (fin true m e) (Low.negative z) = zero-absolute m e z
+        near nan l = elim l [ ]
+        near (inf _) l = elim l [ ]
 
         part : (x : Float) → Low x → Relative (plus_terms 1 (value x)) (minus_terms 1 (value x)) x
         part (fin false m e) (Low.positive a) = small-relative (fin false m e) tt a
         part (fin true m e) (Low.negative z) = zero-relative m e z
+        part nan l = elim l [ ]
+        part (inf _) l = elim l [ ]
 
 pub cosine-low : (x : Float) → le least_arg x ≡ false → T (le zero_arg x) → Trigonometric 0 x (fin false 1 (pos 0))
 cosine-low x h k = let l = low_of x h k in record { inside = λ i. cosine-small x (few x l); outside = λ i. absurd (i (low-range x l)) }
@@ -183,3 +189,5 @@ cosine-low x h k = let l = low_of x h k in record { inside = λ i. cosine-small 
     few : (x : Float) → Low x → 4096 * num x ≤ den x
     few (fin false m e) (Low.positive a) = a
     few (fin true m e) (Low.negative z) = le_trans (le_of_eq (ap (λ (y : ℕ). 4096 * y) (ap (λ (y : ℕ). y * up e) z ∙ zero-mul (up e)))) (le_of_lt (down_pos e))
+    few nan l = elim l [ ]
+    few (inf _) l = elim l [ ]

@@ -1,5 +1,6 @@
 // The seven float functions that vary by platform.
 #![tactic(auto)]
+
 pub mod hyperbolic;
 pub mod log;
 pub mod power;

@@ -122,7 +122,7 @@ pub fn tick_pair(
     v: Pair,
 ) -> Pair
     requires { (stage_count shape ≤ 3) × (k < 6) }
-    ensures { (record { l = result.l; result = result.r; states = states.new }) ≡ pair_ticked shape k stereo (record { l = v.l; result = v.r; states = states.old }) }
+    ensures { (record { l = result.l; r = result.r; states = states.new }) ≡ pair_ticked shape k stereo (record { l = v.l; r = v.r; states = states.old }) }
 {
     let l = tick(states, shape, 12 * k, v.l);
     if stereo {
@@ -135,7 +135,7 @@ pub fn tick_pair(
 // A frame through the first n slots, in their order: a region's filters, then its equaliser bands.
 pub fn chain(states: &mut [f32; 72], slots: [FilterSlot; 6], n: u8, stereo: bool, v: Pair) -> Pair
     requires { (n ≤ 6) × AllStages slots }
-    ensures { (record { l = result.l; result = result.r; states = states.new }) ≡ chained slots stereo n (record { l = v.l; result = v.r; states = states.old }) }
+    ensures { (record { l = result.l; r = result.r; states = states.new }) ≡ chained slots stereo n (record { l = v.l; r = v.r; states = states.old }) }
 {
     let mut w = v;
     let count = n as usize;

@@ -1,6 +1,7 @@
 // Reading a sample at a fractional frame position: two points, four points, or a windowed sinc. The frames are lent as they
 // are; a kernel that draws on one before the first or behind the last multiplies 0.0.
 #![tactic(auto)]
+
 pub mod points;
 pub mod position;
 pub mod sinc;

@@ -7,7 +7,7 @@ use super::field::{byte, is_byte, number, single, word};
 use super::rows::{line_fits, put_fields};
 
 // Rate, 1 or 2 channels, frames of each; kind 0 zeros, 1 noise, 2 ones; the noise's seed.
-#[derive(Drop)]
+#[derive(Clone, Copy)]
 pub struct SampleLine {
     pub rate: f32,
     pub channels: u32,
@@ -16,7 +16,7 @@ pub struct SampleLine {
     pub seed: u64,
 }
 
-#[derive(Drop)]
+#[derive(Clone, Copy)]
 pub struct PlayLine {
     pub voice: u64,
     pub offset: u64,
@@ -24,7 +24,7 @@ pub struct PlayLine {
 }
 
 // W, S, R, C, F, Q, V, I (with a frame and a value, and with none), B, A, Z, D, and every other line.
-#[derive(Drop)]
+#[derive(Clone, Copy)]
 pub enum Line {
     Unreadable,
     Entry { index: u32, value: f32 },

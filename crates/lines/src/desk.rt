@@ -12,7 +12,7 @@ use super::field::{
 use program::region::{MaybeU32, OffBy, Seq, Window};
 
 // A region as the desk lister gives it; `sample` is 0xffff_ffff for silence, the enums are counted from 0 as declared.
-#[derive(Drop)]
+#[derive(Clone, Copy)]
 pub struct RegionLine {
     pub sample: u32,
     pub window: Window,
@@ -25,7 +25,7 @@ pub struct RegionLine {
     pub seq: Seq,
 }
 
-#[derive(Drop)]
+#[derive(Clone, Copy)]
 pub struct BlockLine {
     pub voice: u64,
     pub offset: u64,
@@ -36,7 +36,7 @@ pub struct BlockLine {
 }
 
 // The lines S, R, V, B, Z and D, and every other.
-#[derive(Drop)]
+#[derive(Clone, Copy)]
 pub enum DeskLine {
     Unreadable,
     Sample { rate: u32, frames: u32 },

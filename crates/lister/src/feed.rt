@@ -10,7 +10,7 @@ const LONGEST: usize = 4096;
 
 // The bytes from..to of the buffer are still to be taken; `ended` where no more follow. Where the input is `parted`, a line `=` ends a
 // script, and `parting` says that the line taken last was one.
-#[derive(Drop)]
+#[derive(Clone, Copy)]
 pub struct Feed {
     pub from: usize,
     pub to: usize,
@@ -29,7 +29,7 @@ pub struct Taken {
 }
 
 // What a script leaves: whether its last line was taken, and what is still to be taken.
-#[derive(Drop)]
+#[derive(Clone, Copy)]
 pub struct Left {
     pub over: bool,
     pub feed: Feed,

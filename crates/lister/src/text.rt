@@ -1,5 +1,7 @@
 // The text that is written, collected in a buffer: each function puts something at `at` and answers the place after it.
-use libc::STDOUT_FILENO;
+// Standard output.
+const STDOUT_FILENO: i32 = 1;
+
 use lines::field::word_of;
 
 // Room for any line that is printed.

@@ -14,7 +14,9 @@
 #![tactic(auto)]
 ghost use Rattle.std.specs.Prelude.{◌≤◌, ◌<◌, ◌+◌, length};
 
-use libc::STDOUT_FILENO;
+// Standard output.
+const STDOUT_FILENO: i32 = 1;
+
 use session::{Limit, OffAt, OffBy, PlayerRecord, Session, Slots, Start, Window};
 
 const NONE: u64 = 0xFFFF_FFFF_FFFF_FFFF;
@@ -25,7 +27,7 @@ struct Number {
     next: usize,
 }
 
-#[derive(Drop)]
+#[derive(Clone, Copy)]
 struct Line {
     letter: u8,
     fields: [u64; 40],

@@ -13,7 +13,7 @@ pub loop-i-preserved : goal.loop-i-preserved
 loop-i-preserved c = let a = c.args in (
   omega arith,
   c.loop-i.invariant.1,
-  elim c.if-choked_by.branch [ then-choked_by w ↦ w.EQ0 ∙ walk-hit (choked_by a.st) (marked a.st.at) _ c.loop-i.t c.loop-i.i _ c.loop-i.invariant.2 _ c.choked_by.ensures _ w.if-choked_by.true w.mark.ensures | else-choked_by w ↦ w.EQ0 ∙ walk-miss (choked_by a.st) (marked a.st.at) _ c.loop-i.t c.loop-i.i _ c.loop-i.invariant.2 _ c.choked_by.ensures w.if-choked_by.false ],
+  elim c.if-choked_by.branch [ then-choked_by w ↦ w.t-is ∙ walk-hit (choked_by a.st) (marked a.st.at) _ c.loop-i.t c.loop-i.i _ c.loop-i.invariant.2 _ c.choked_by.ensures _ w.if-choked_by.true w.mark.ensures | else-choked_by w ↦ w.t-is ∙ walk-miss (choked_by a.st) (marked a.st.at) _ c.loop-i.t c.loop-i.i _ c.loop-i.invariant.2 _ c.choked_by.ensures w.if-choked_by.false ],
 )
 
 pub returns : goal.returns

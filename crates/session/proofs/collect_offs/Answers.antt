@@ -16,8 +16,8 @@ loop-i-preserved c = let a = c.args in
       omega arith,
       c.loop-i.invariant.1,
       c.loop-i.invariant.2,
-      elim c.if-is_waiting.branch [ then-is_waiting w ↦ w.EQ0 ∙ walk-hit (waits a.voice) collected _ c.loop-i.t c.loop-i.i _ c.loop-i.invariant.3 _ c.is_waiting.ensures _ w.if-is_waiting.true w.clear_off.ensures | else-is_waiting w ↦ w.EQ0 ∙ walk-miss (waits a.voice) collected _ c.loop-i.t c.loop-i.i _ c.loop-i.invariant.3 _ c.is_waiting.ensures w.if-is_waiting.false ],
-      elim c.if-is_waiting.branch [ then-is_waiting w ↦ w.EQ1 ∙ offs-hit a.voice a.s.players c.loop-i.i c.loop-i.offs _ c.loop-i.invariant.4 (omega (arith, c.loop-i.invariant.2)) _ (c.is_waiting.ensures ∙ ap (waits a.voice) (untouched f _ c.loop-i.t c.loop-i.i _ c.loop-i.invariant.3)) _ _ w.if-is_waiting.true (w.off_of.ensures ∙ ap off_of (untouched f _ c.loop-i.t c.loop-i.i _ c.loop-i.invariant.3)) w.add_off-offs.ensures | else-is_waiting w ↦ w.EQ1 ∙ offs-miss a.voice a.s.players c.loop-i.i c.loop-i.offs _ c.loop-i.invariant.4 (omega (arith, c.loop-i.invariant.2)) _ (c.is_waiting.ensures ∙ ap (waits a.voice) (untouched f _ c.loop-i.t c.loop-i.i _ c.loop-i.invariant.3)) w.if-is_waiting.false ],
+      elim c.if-is_waiting.branch [ then-is_waiting w ↦ w.t-is ∙ walk-hit (waits a.voice) collected _ c.loop-i.t c.loop-i.i _ c.loop-i.invariant.3 _ c.is_waiting.ensures _ w.if-is_waiting.true w.clear_off.ensures | else-is_waiting w ↦ w.t-is ∙ walk-miss (waits a.voice) collected _ c.loop-i.t c.loop-i.i _ c.loop-i.invariant.3 _ c.is_waiting.ensures w.if-is_waiting.false ],
+      elim c.if-is_waiting.branch [ then-is_waiting w ↦ w.offs-is ∙ offs-hit a.voice a.s.players c.loop-i.i c.loop-i.offs _ c.loop-i.invariant.4 (omega (arith, c.loop-i.invariant.2)) _ (c.is_waiting.ensures ∙ ap (waits a.voice) (untouched f _ c.loop-i.t c.loop-i.i _ c.loop-i.invariant.3)) _ _ w.if-is_waiting.true (w.off_of.ensures ∙ ap off_of (untouched f _ c.loop-i.t c.loop-i.i _ c.loop-i.invariant.3)) w.add_off-offs.ensures | else-is_waiting w ↦ w.offs-is ∙ offs-miss a.voice a.s.players c.loop-i.i c.loop-i.offs _ c.loop-i.invariant.4 (omega (arith, c.loop-i.invariant.2)) _ (c.is_waiting.ensures ∙ ap (waits a.voice) (untouched f _ c.loop-i.t c.loop-i.i _ c.loop-i.invariant.3)) w.if-is_waiting.false ],
     )
 
 pub returns : goal.returns

@@ -14,7 +14,7 @@ pub loop-i-preserved : goal.loop-i-preserved
 loop-i-preserved c = let a = c.args in (
   omega arith,
   c.loop-i.invariant.1,
-  elim c.if-in_slots.branch [ then-in_slots w ↦ w.EQ0 ∙ walk-hit (in_slots a.voice (slot_list a.ks)) (ended) _ c.loop-i.t c.loop-i.i _ c.loop-i.invariant.2 _ c.in_slots.ensures _ w.if-in_slots.true w.end_record.ensures | else-in_slots w ↦ w.EQ0 ∙ walk-miss (in_slots a.voice (slot_list a.ks)) (ended) _ c.loop-i.t c.loop-i.i _ c.loop-i.invariant.2 _ c.in_slots.ensures w.if-in_slots.false ],
+  elim c.if-in_slots.branch [ then-in_slots w ↦ w.t-is ∙ walk-hit (in_slots a.voice (slot_list a.ks)) (ended) _ c.loop-i.t c.loop-i.i _ c.loop-i.invariant.2 _ c.in_slots.ensures _ w.if-in_slots.true w.end_record.ensures | else-in_slots w ↦ w.t-is ∙ walk-miss (in_slots a.voice (slot_list a.ks)) (ended) _ c.loop-i.t c.loop-i.i _ c.loop-i.invariant.2 _ c.in_slots.ensures w.if-in_slots.false ],
 )
 
 pub returns : goal.returns

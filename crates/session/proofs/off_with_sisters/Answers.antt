@@ -13,7 +13,7 @@ pub loop-i-preserved : goal.loop-i-preserved
 loop-i-preserved c = let a = c.args in (
   omega arith,
   c.loop-i.invariant.1,
-  elim c.if-is_sister.branch [ then-is_sister w ↦ w.EQ0 ∙ walk-hit (is_sister a.voice a.start) (marked a.at) _ c.loop-i.t c.loop-i.i _ c.loop-i.invariant.2 _ c.is_sister.ensures _ w.if-is_sister.true w.mark.ensures | else-is_sister w ↦ w.EQ0 ∙ walk-miss (is_sister a.voice a.start) (marked a.at) _ c.loop-i.t c.loop-i.i _ c.loop-i.invariant.2 _ c.is_sister.ensures w.if-is_sister.false ],
+  elim c.if-is_sister.branch [ then-is_sister w ↦ w.t-is ∙ walk-hit (is_sister a.voice a.start) (marked a.at) _ c.loop-i.t c.loop-i.i _ c.loop-i.invariant.2 _ c.is_sister.ensures _ w.if-is_sister.true w.mark.ensures | else-is_sister w ↦ w.t-is ∙ walk-miss (is_sister a.voice a.start) (marked a.at) _ c.loop-i.t c.loop-i.i _ c.loop-i.invariant.2 _ c.is_sister.ensures w.if-is_sister.false ],
 )
 
 pub returns : goal.returns

@@ -10,48 +10,14 @@ use mathlib.Core.List.{foldl}
 use Rattle.session.specs.declared.PlayerRecord.{PlayerRecord}
 use Rattle.session.specs.declared.Start.{Start}
 use Rattle.session.proofs.start_many.Goals as goal
-use Rattle.session.proofs.start_many.Goals.{else-choked_by, then-choked_by}
-
--- the turn's start
-abbrev start-at : goal.At-loop-i → Start
-start-at l = get_or l.args.b.starts l.loop-i.i no_start
-
--- the walk has choked
-choked : (c : goal.After-loop-k) → c.loop-k.t ≡ relist (choke (start-at c.before.before.before.before.before) (view c.loop-i.t)) c.loop-i.t
-choked c =
-    walk-choked (start-at c.before.before.before.before.before) c.loop-i.t c.loop-k.t c.loop-k.k _ c.loop-i.invariant.3 c.used-m.ensures c.loop-k.invariant.2 c.loop-k.invariant.0 c.loop-k-test.false
-
--- with limits or without, the marks are those of the start
-all-marked : (c : goal.Joined-is_limited) → c.if-is_limited.t ≡ relist (start_marks (start-at c.before.before.before.before.before.before.before) (view c.loop-i.t)) c.loop-i.t
-all-marked c =
-    let st = start-at c.before.before.before.before.before.before.before in
-    let s = c.loop-i.t in
-    ⊎_elim
-    (λ w. w.3 ∙ marks-in-turn st s _ _ _ c.loop-i.invariant.3 (choked c.before.before) w.1.ensures w.2.ensures)
-    (λ w. w.1 ∙ choked c.before.before ∙ ap (λ (rs : List PlayerRecord). relist rs s) (sym (unlimited-marks st (view s) (sym c.is_limited.ensures ∙ w.0.left))))
-    c.if-is_limited.branch
-
--- the turn's start has been entered, where the voice has room
-turned : (c : goal.Joined-count-lt32) → ◌≡◌ {A = Starting} (record { session = c.if-count-lt32.t; held = c.if-count-lt32.count; slot = c.if-count-lt32.next }) (start_next (record { session = c.loop-i.t; held = c.loop-i.count; slot = c.loop-i.next }) (start-at c.before.before.before.before.before.before.before.before))
-turned c =
-    let x : Starting = record { session = c.loop-i.t; held = c.loop-i.count; slot = c.loop-i.next } in
-    let st = start-at c.before.before.before.before.before.before.before.before in
-    ⊎_elim
-    (λ w. turn-joins x st _ _ _ (omega (arith, w.0.taken))
-    (w.3
-    ∙ ⊎_elim
-    (λ v. v.2 ∙ start-enters x.session c.loop-i.invariant.3 st x.slot _ c.used-m.ensures _ (all-marked c.before) _ v.0.taken v.1.ensures)
-    (λ v. v.1 ∙ start-full x.session c.loop-i.invariant.3 st x.slot _ c.used-m.ensures _ (all-marked c.before) v.0.left)
-    w.1.came) w.4 (w.5 ∙ w.2.ensures))
-    (λ w. turn-drops x st _ _ _ (omega (arith, w.0.left)) (w.1 ∙ start-roomless x.session c.loop-i.invariant.3 st x.slot _ c.used-m.ensures _ (all-marked c.before)) w.2 w.3)
-    c.if-count-lt32.branch
+use Rattle.session.proofs.start_many.Goals.{else-choked_by, then-choked_by, then-is_limited, else-is_limited, then-count-lt32, then-m-lt512, else-m-lt512, else-count-lt32}
 
 pub loop-i-init : goal.loop-i-init
 loop-i-init c = (
   omega arith,
   rw c.used_starts-n.ensures (used-below 256 c.args.b.count),
-  long _ c.args.b.starts 256 c.well_formed.1.0.1.1.0.1.0.1,
-  long _ c.args.s.players 512 c.well_formed.0.1.1.0.1.0.1,
+  c.well_formed.1.0.1.1.0.1.0.1,
+  c.well_formed.0.1.1.0.1.0.1,
   refl,
 )
 
@@ -62,23 +28,49 @@ pub loop-k-preserved : goal.loop-k-preserved
 loop-k-preserved c = (
   omega arith,
   c.loop-k.invariant.1,
-  elim c.if-choked_by.branch [ then-choked_by w ↦ w.EQ0 ∙ walk-hit (choked_by _) (marked _) _ c.loop-k.t c.loop-k.k _ c.loop-k.invariant.2 _ c.choked_by.ensures _ w.if-choked_by.true w.mark.ensures | else-choked_by w ↦ w.EQ0 ∙ walk-miss (choked_by _) (marked _) _ c.loop-k.t c.loop-k.k _ c.loop-k.invariant.2 _ c.choked_by.ensures w.if-choked_by.false ],
+  elim c.if-choked_by.branch [ then-choked_by w ↦ w.t-is ∙ walk-hit (choked_by _) (marked _) _ c.loop-k.t c.loop-k.k _ c.loop-k.invariant.2 _ c.choked_by.ensures _ w.if-choked_by.true w.mark.ensures | else-choked_by w ↦ w.t-is ∙ walk-miss (choked_by _) (marked _) _ c.loop-k.t c.loop-k.k _ c.loop-k.invariant.2 _ c.choked_by.ensures w.if-choked_by.false ],
 )
 
 pub limit_note-x-requires : goal.limit_note-x-requires
-limit_note-x-requires c = few-left c.loop-i.t _ (choke (start-at c.before.before.before.before.before.before.before)) (length-choke (start-at c.before.before.before.before.before.before.before)) (choked c.before.before)
+limit_note-x-requires c = few-left c.loop-i.t _ (choke (get_or c.args.b.starts c.loop-i.i no_start)) (length-choke (get_or c.args.b.starts c.loop-i.i no_start)) (walk-choked (get_or c.args.b.starts c.loop-i.i no_start) c.loop-i.t c.loop-k.t c.loop-k.k _ c.loop-i.invariant.3 c.used-m.ensures c.loop-k.invariant.2 c.loop-k.invariant.0 c.loop-k-test.false)
 
 pub limit_region-t-requires : goal.limit_region-t-requires
-limit_region-t-requires c = few-left c.loop-k.t _ (after_note_polyphony (start-at c.before.before.before.before.before.before.before.before)) (length-note (start-at c.before.before.before.before.before.before.before.before)) c.limit_note-x.ensures
+limit_region-t-requires c = few-left c.loop-k.t _ (after_note_polyphony (get_or c.args.b.starts c.loop-i.i no_start)) (length-note (get_or c.args.b.starts c.loop-i.i no_start)) c.limit_note-x.ensures
 
 pub loop-i-preserved : goal.loop-i-preserved
-loop-i-preserved c = let x : Starting = record { session = c.loop-i.t; held = c.loop-i.count; slot = c.loop-i.next } in
-    let more = c.loop-i-test.true in (
+loop-i-preserved c =
+    let st : Start = get_or c.args.b.starts c.loop-i.i no_start in
+    let s = c.loop-i.t in
+    let x : Starting = record { session = s; held = c.loop-i.count; slot = c.loop-i.next } in
+    let more = c.loop-i-test.true in
+    -- the walk has choked
+    let choked : c.loop-k.t ≡ relist (choke st (view s)) s =
+    walk-choked st s c.loop-k.t c.loop-k.k _ c.loop-i.invariant.3 c.used-m.ensures c.loop-k.invariant.2 c.loop-k.invariant.0 c.loop-k-test.false
+    in
+    -- with limits or without, the marks are those of the start
+    let all_marked : c.if-is_limited.t ≡ relist (start_marks st (view s)) s =
+    elim c.if-is_limited.branch [
+      | then-is_limited w ↦ w.t-is ∙ marks-in-turn st s _ _ _ c.loop-i.invariant.3 choked w.limit_note-x.ensures w.limit_region-t.ensures
+      | else-is_limited w ↦ w.t-is ∙ choked ∙ ap (λ (rs : List PlayerRecord). relist rs s) (sym (unlimited-marks st (view s) (sym c.is_limited.ensures ∙ w.if-is_limited.false)))
+    ]
+    in
+    -- the turn's start has been entered, where the voice has room
+    let turned : ◌≡◌ {A = Starting} (record { session = c.if-count-lt32.t; held = c.if-count-lt32.count; slot = c.if-count-lt32.next }) (start_next x st) =
+    elim c.if-count-lt32.branch [
+      | then-count-lt32 w ↦ turn-joins x st _ _ _ (omega (arith, w.if-count-lt32.true))
+          (w.t-is
+          ∙ (elim w.if-m-lt512.branch [
+            | then-m-lt512 v ↦ v.t-is ∙ start-enters s c.loop-i.invariant.3 st x.slot _ c.used-m.ensures _ all_marked _ v.if-m-lt512.true v.entry.ensures
+            | else-m-lt512 v ↦ v.t-is ∙ start-full s c.loop-i.invariant.3 st x.slot _ c.used-m.ensures _ all_marked v.if-m-lt512.false
+          ])) w.count-is (w.next-is ∙ w.wrapping_add_u32-next.ensures.value)
+      | else-count-lt32 w ↦ turn-drops x st _ _ _ (omega (arith, w.if-count-lt32.false)) (w.t-is ∙ start-roomless s c.loop-i.invariant.3 st x.slot _ c.used-m.ensures _ all_marked) w.count-is w.next-is
+    ]
+    in (
       omega (arith, more),
       c.loop-i.invariant.1,
       c.loop-i.invariant.2,
-      turn-size x _ (start-at c.before.before.before.before.before.before.before.before) c.loop-i.invariant.3 (turned c),
-      fold_step start_next _ c.args.b.starts c.loop-i.i x c.loop-i.invariant.4 no_start _ (omega (arith, more, c.loop-i.invariant.1, c.loop-i.invariant.2)) (turned c),
+      turn-size x _ st c.loop-i.invariant.3 turned,
+      fold_step start_next _ c.args.b.starts c.loop-i.i x c.loop-i.invariant.4 no_start _ (omega (arith, more, c.loop-i.invariant.1, c.loop-i.invariant.2)) turned,
     )
 
 pub returns : goal.returns

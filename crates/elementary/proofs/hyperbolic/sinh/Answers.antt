@@ -39,7 +39,7 @@ power_down-requires c = small-between c.args.x (yes c.well_formed.0.1) (between 
 pub returns : goal.returns
 unfolding sinh_of of_bits
 returns c = (
-      rw (number c.args.x c.if-x.false, c.if-x-2.false, c.if-x-3.false, c.narrow.ensures, c.power_down.ensures, c.power_up.ensures),
-      rw (c.narrow.ensures, c.power_down.ensures, c.power_up.ensures)
-          (sinh-between c.args.x (yes c.well_formed.0.1) (between c.args.x c.if-x.false c.if-x-2.false c.if-x-3.false)),
-    )
+  rw (number c.args.x c.if-x.false, c.if-x-2.false, c.if-x-3.false, c.narrow.ensures, c.power_down.ensures, c.power_up.ensures),
+  rw (c.narrow.ensures, c.power_down.ensures, c.power_up.ensures)
+      (sinh-between c.args.x (yes c.well_formed.0.1) (between c.args.x c.if-x.false c.if-x-2.false c.if-x-3.false)),
+)

@@ -3,6 +3,7 @@ use lib.Ieee.{of_bits}
 use Rattle.elementary.specs.Logarithm.{guess_of}
 use Rattle.elementary.proofs.Root.{past_room, tested}
 use Rattle.elementary.proofs.log.fraction.Goals as goal
+use Rattle.elementary.proofs.log.fraction.Goals.{then-m-v-via-then-m-v, then-m-v-via-else-m-v+then-v-m}
 
 or_left : {a : Bool} (b : Bool) → a ≡ true → (a || b) ≡ true
 or_left b e = ap (λ (x : Bool). x || b) e
@@ -22,8 +23,8 @@ unfolding of_bits
 returns-then-m-v c = let m = c.args.m in
     c.root.ensures
     ∙ (elim c.then-m-v.branch [
-      | inl a ↦ tested m c.power_at-v.result c.guess-k.result true c.guess-k.ensures c.power_at-v.ensures (or_left _ a.taken)
-      | inr a ↦ tested m c.power_at-v.result c.guess-k.result true c.guess-k.ensures c.power_at-v.ensures (or_right a.0.left a.1.taken)
+      | then-m-v-via-then-m-v w ↦ tested m c.power_at-v.result c.guess-k.result true c.guess-k.ensures c.power_at-v.ensures (or_left _ w.if-m-v.true)
+      | then-m-v-via-else-m-v+then-v-m w ↦ tested m c.power_at-v.result c.guess-k.result true c.guess-k.ensures c.power_at-v.ensures (or_right w.if-m-v.false w.if-v-m.true)
     ])
 
 pub returns : goal.returns

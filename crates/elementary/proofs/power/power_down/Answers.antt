@@ -13,7 +13,7 @@ pub overflow_sub-n : goal.overflow_sub-n
 overflow_sub-n c = le_trans (le_of_eq c.ceiling-n.ensures) (le_trans (ceil-le 128 (num c.args.y) (den c.args.y) (den_pos c.args.y) c.requires.most) (lit≤ tt))
 
 pub scale-requires : goal.scale-requires
-scale-requires c = let both = omega (arith, c.ceiling-n.ensures, ceil-le 128 (num c.args.y) (den c.args.y) (den_pos c.args.y) c.requires.most) in record { fact_1 = both.0; fact_2 = both.1 }
+scale-requires c = record { fact_1 = omega (arith, c.ceiling-n.ensures, ceil-le 128 (num c.args.y) (den c.args.y) (den_pos c.args.y) c.requires.most); fact_2 = omega (arith, c.ceiling-n.ensures, ceil-le 128 (num c.args.y) (den c.args.y) (den_pos c.args.y) c.requires.most) }
 
 pub returns : goal.returns
 unfolding power_down

@@ -15,7 +15,7 @@ pub overflow_add-n : goal.overflow_add-n
 overflow_add-n c = omega (arith, trunc-most c.truncating_f64_to_u64-n.result c.args.y c.requires c.truncating_f64_to_u64-n.ensures)
 
 pub scale-requires : goal.scale-requires
-scale-requires c = let both = omega (arith, trunc-most c.truncating_f64_to_u64-n.result c.args.y c.requires c.truncating_f64_to_u64-n.ensures) in record { fact_1 = both.0; fact_2 = both.1 }
+scale-requires c = record { fact_1 = omega (arith, trunc-most c.truncating_f64_to_u64-n.result c.args.y c.requires c.truncating_f64_to_u64-n.ensures); fact_2 = omega (arith, trunc-most c.truncating_f64_to_u64-n.result c.args.y c.requires c.truncating_f64_to_u64-n.ensures) }
 
 pub returns : goal.returns
 unfolding power_up

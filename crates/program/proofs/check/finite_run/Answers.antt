@@ -15,7 +15,7 @@ loop-k-init c = let a = c.args in (omega arith, worst-none is_finite float_of (�
 pub loop-k-preserved : goal.loop-k-preserved
 loop-k-preserved c = let a = c.args in (
   omega arith,
-  elim c.if-worst-w.branch [ then-worst-w w ↦ rw w.EQ0 (worse is_finite float_of (λ w. w % 0x8000_0000) 0x7f80_0000 finite-bits a.r.now a.at a.n c.loop-k.worst c.loop-k.k c.loop-k-test.true c.loop-k.invariant.1 w.if-worst-w.true) | else-worst-w w ↦ rw w.EQ0 (no-worse is_finite float_of (λ w. w % 0x8000_0000) 0x7f80_0000 finite-bits a.r.now a.at a.n c.loop-k.worst c.loop-k.k c.loop-k-test.true c.loop-k.invariant.1 w.if-worst-w.false) ],
+  elim c.if-worst-w.branch [ then-worst-w w ↦ rw w.worst-is (worse is_finite float_of (λ w. w % 0x8000_0000) 0x7f80_0000 finite-bits a.r.now a.at a.n c.loop-k.worst c.loop-k.k c.loop-k-test.true c.loop-k.invariant.1 w.if-worst-w.true) | else-worst-w w ↦ rw w.worst-is (no-worse is_finite float_of (λ w. w % 0x8000_0000) 0x7f80_0000 finite-bits a.r.now a.at a.n c.loop-k.worst c.loop-k.k c.loop-k-test.true c.loop-k.invariant.1 w.if-worst-w.false) ],
 )
 
 pub returns : goal.returns

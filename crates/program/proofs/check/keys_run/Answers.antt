@@ -15,7 +15,7 @@ loop-k-init c = let a = c.args in (omega arith, worst-none (λ v. leb v 127) byt
 pub loop-k-preserved : goal.loop-k-preserved
 loop-k-preserved c = let a = c.args in (
   omega arith,
-  elim c.if-worst-w.branch [ then-worst-w w ↦ rw w.EQ0 (worse (λ v. leb v 127) byte_of (λ w. w) 128 key-word a.r.now a.at a.n c.loop-k.worst c.loop-k.k c.loop-k-test.true c.loop-k.invariant.1 w.if-worst-w.true) | else-worst-w w ↦ rw w.EQ0 (no-worse (λ v. leb v 127) byte_of (λ w. w) 128 key-word a.r.now a.at a.n c.loop-k.worst c.loop-k.k c.loop-k-test.true c.loop-k.invariant.1 w.if-worst-w.false) ],
+  elim c.if-worst-w.branch [ then-worst-w w ↦ rw w.worst-is (worse (λ v. leb v 127) byte_of (λ w. w) 128 key-word a.r.now a.at a.n c.loop-k.worst c.loop-k.k c.loop-k-test.true c.loop-k.invariant.1 w.if-worst-w.true) | else-worst-w w ↦ rw w.worst-is (no-worse (λ v. leb v 127) byte_of (λ w. w) 128 key-word a.r.now a.at a.n c.loop-k.worst c.loop-k.k c.loop-k-test.true c.loop-k.invariant.1 w.if-worst-w.false) ],
 )
 
 pub returns : goal.returns
