@@ -1,5 +1,6 @@
 // How loud a region plays and where, as sfizz has it: the gains by velocity, and the matrix of pan and width.
 #![tactic(auto)]
+
 ghost use Rattle.std.specs.Prelude.{◌≡◌};
 ghost use Rattle.gain.specs.Gain.{cents_factor, curve_gain, velocity_gain, fade_shape, faded_in, faded_out, crossfade_gain, quarter_turn, pan_matrix};
 

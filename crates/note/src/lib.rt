@@ -1,6 +1,7 @@
 // A note of a voice: what its rising gate's inputs make it, and which regions it starts and which its release. Choosing stands apart
 // from starting: it reads the program and the session, and changes nothing but the sequences.
 #![tactic(auto)]
+
 ghost use Rattle.std.specs.Prelude.{◌≡◌};
 ghost use Rattle.note.specs.Note.{note_of, key_of, velocity_of, kernel_of, note_state};
 

@@ -2,6 +2,7 @@ use Rattle.gain.specs.Gain.{faded_out}
 use mathlib.Core.Logic.{⊎_elim}
 use borrow.Author.Rules.{rules}
 use Rattle.gain.proofs.fade_out.Goals as goal
+use Rattle.gain.proofs.fade_out.Goals.{else-len-via-then-len+else-v-xf, else-len-via-else-len}
 
 pub returns-then-pos : goal.returns-then-pos
 unfolding faded_out
@@ -13,4 +14,4 @@ returns-then-v-xf c = rw (c.if-len.true, c.if-v-xf.true, c.if-pos.false, c.fade_
 
 pub returns : goal.returns
 unfolding faded_out
-returns c = elim c.else-len.branch [ thense-len w ↦ rw (w.else-len.true, w.EQ1.left) | elsese-len w ↦ rw w.left ]
+returns c = elim c.else-len.branch [ else-len-via-then-len+else-v-xf w ↦ rw (w.if-len.true, w.if-v-xf.false) | else-len-via-else-len w ↦ rw w.if-len.false ]
