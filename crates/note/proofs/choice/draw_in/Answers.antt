@@ -7,7 +7,7 @@ use borrow.Author.Rules.{rules}
 use Rattle.note.proofs.choice.draw_in.Goals as goal
 
 pub returns-then-not-lo-draw : goal.returns-then-not-lo-draw
-returns-then-not-lo-draw c = let v = c.r-1.given.0 in rw c.in-Within.is (no-and {a = le v.0 c.args.draw} (lt c.args.draw v.1.0) (not-true _ c.if-not-lo-draw.true-raw))
+returns-then-not-lo-draw c = rw c.in-Within.is (no-and {a = le c.in-Within.lo c.args.draw} (lt c.args.draw c.in-Within.hi) c.if-not-lo-draw.true)
 
 pub returns-else-not-lo-draw : goal.returns-else-not-lo-draw
-returns-else-not-lo-draw c = let v = c.r-1.given.0 in rw c.in-Within.is (after {a = le v.0 c.args.draw} (not-false _ c.if-not-lo-draw.false-raw) refl)
+returns-else-not-lo-draw c = rw c.in-Within.is (after {a = le c.in-Within.lo c.args.draw} c.if-not-lo-draw.false refl)
