@@ -1,5 +1,12 @@
 use mathlib.Core.Path.{◌≡◌, ◌∙◌}
-use Prim.Native.Nat.{◌+◌, min}
+use Prim.Native.Nat.{ℕ, ◌+◌, min}
+use mathlib.Core.List.{List}
+use lib.Ieee.{Float}
+use mir.Val.{Val}
+use denote.Laws.{Is}
+use denote.Struct.Declared.{row}
+use Rattle.program.specs.declared.region.Region.{Region}
+use Rattle.program.specs.contracts.region.Region.{the_type}
 use native.Mathlib.Omega.{arith}
 use lib.ListN.{length}
 use Rattle.filter.specs.declared.FilterShape.TheVariants.{Off}
@@ -9,15 +16,17 @@ use Rattle.filter_design.proofs.Long.{filters-long, bands-long}
 use borrow.Author.Rules.{rules}
 use Rattle.filter_design.proofs.slots.build_filters.Goals as goal
 
-run_long : (c : goal.Start) → length (run c.args.region c.args.note c.args.vel c.args.sr) ≡ min c.args.region.filter_count 6 + min c.args.region.eq_count 6
-run_long c =
-    let a = c.args in
-    length-joined (filter_slot a.note a.vel a.sr) (band_slot a.vel a.sr) a.region.filter_count a.region.eq_count a.region.filters a.region.eq (slot Off) ∙ rw (filters-long a.region _ c.well_formed.0, bands-long a.region _ c.well_formed.0)
+-- the run of a region's slots is as long as the two counts
+run_long : (x : Region) (vs : List Val) (p : Is (row the_type) x vs) (note vel : ℕ) (sr : Float)
+    → length (run x note vel sr) ≡ min x.filter_count 6 + min x.eq_count 6
+run_long x vs p note vel sr =
+    length-joined (filter_slot note vel sr) (band_slot vel sr) x.filter_count x.eq_count x.filters x.eq (slot Off)
+    ∙ rw (filters-long x vs p, bands-long x vs p)
 
 pub returns-then-n-lt6 : goal.returns-then-n-lt6
 unfolding six_of
 returns-then-n-lt6 c = let a = c.args in
-    let l = run_long c.before.before.before.before.before.before.before.before.before in
+    let l = run_long a.region _ c.well_formed.0 a.note a.vel a.sr in
     let u = c.in_use.ensures in
     let w = c.in_use-2.ensures in
     let t = c.if-n-lt6.true in
@@ -27,7 +36,7 @@ returns-then-n-lt6 c = let a = c.args in
 pub returns-else-n-lt6 : goal.returns-else-n-lt6
 unfolding six_of
 returns-else-n-lt6 c = let a = c.args in
-    let l = run_long c.before.before.before.before.before.before.before.before.before in
+    let l = run_long a.region _ c.well_formed.0 a.note a.vel a.sr in
     let u = c.in_use.ensures in
     let w = c.in_use-2.ensures in
     let t = c.if-n-lt6.false in
