@@ -24,3 +24,4 @@ zero_of m e t =
 
 pub left : (x y : Bool) → T x → T (x || y)
 left true y t = tt
+left false y t = elim t [ ]

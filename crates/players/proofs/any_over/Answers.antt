@@ -11,7 +11,7 @@ use Rattle.players.proofs.any_over.Goals as goal
 
 pub loop-i-init : goal.loop-i-init
 loop-i-init c = let h : c.used-n.result ≤ 32 = rw c.used-n.ensures (used-below 32 c.args.ps.count) in
-    let l = long _ c.args.ps.players 32 c.well_formed.0.1.1.0.1.0.1 in
+    let l = c.well_formed.0.1.1.0.1.0.1 in
     (h, record { fits = omega arith; left = refl })
 
 pub returns-then-is_over : goal.returns-then-is_over

@@ -35,7 +35,7 @@ loop-i-preserved c = let told = c.is_over.ensures in (
       omega arith,
       c.loop-i.invariant.1,
       c.loop-i.invariant.2,
-      elim c.if-j-at.branch [ then-j-at w ↦ reaping-on _ _ _ c.loop-i.i _ _ _ c.loop-i.invariant.3 (omega (arith, c.loop-i.invariant.2)) _ told c.if-is_over.false _ (ap (λ (x : Players). x.players) w.EQ0) | else-j-at w ↦ reaping-stay _ _ _ c.loop-i.i _ _ _ c.loop-i.invariant.3 (omega (arith, c.loop-i.invariant.2)) _ told c.if-is_over.false w.if-j-at.false _ (ap (λ (x : Players). x.players) w.EQ0) ],
+      elim c.if-j-at.branch [ then-j-at w ↦ reaping-on _ _ _ c.loop-i.i _ _ _ c.loop-i.invariant.3 (omega (arith, c.loop-i.invariant.2)) _ told c.if-is_over.false _ (ap (λ (x : Players). x.players) w.t-is) | else-j-at w ↦ reaping-stay _ _ _ c.loop-i.i _ _ _ c.loop-i.invariant.3 (omega (arith, c.loop-i.invariant.2)) _ told c.if-is_over.false w.if-j-at.false _ (ap (λ (x : Players). x.players) w.t-is) ],
     )
 
 pub returns : goal.returns

@@ -9,7 +9,7 @@ use Rattle.players.proofs.Places.{Listed, listed-none, listed_more, slots-step, 
 use Rattle.players.proofs.slots_of.Goals as goal
 
 pub loop-i-init : goal.loop-i-init
-loop-i-init c = (omega arith, rw c.used-n.ensures (used-below 32 c.args.ps.count), long _ c.args.ps.players 32 c.well_formed.0.1.1.0.1.0.1, listed-none)
+loop-i-init c = (omega arith, rw c.used-n.ensures (used-below 32 c.args.ps.count), c.well_formed.0.1.1.0.1.0.1, listed-none)
 
 pub loop-i-preserved : goal.loop-i-preserved
 loop-i-preserved c = (omega arith, c.loop-i.invariant.1, c.loop-i.invariant.2, listed_more _ _ _ c.loop-i.invariant.3 _ _ (omega arith) (slots-step _ c.loop-i.i _ (omega (arith, c.loop-i.invariant.2))))

@@ -17,9 +17,18 @@ use Rattle.voice.proofs.Calming.{Calm, calm-told, calm-asks, calm-out, left_by, 
 use Rattle.voice.proofs.Idle.{quiet-out}
 use Rattle.voice.proofs.Numbers.{block-promise}
 use Rattle.voice.proofs.block.Goals as goal
+use Rattle.voice.proofs.block.Lts as lts
+use Rattle.voice.proofs.block.Reads as reads
+use Rattle.voice.proofs.block.Tie as tie
+
+abbrev Start : Type 0
+Start = lts.Start tie.the-claims reads.Pre reads.Post
+
+abbrev After_look_k : Type 0
+After_look_k = lts.After-look tie.the-claims reads.Pre reads.Post
 
 -- what the call was lent, as its promise has it
-abbrev lent : goal.Start → Lent
+abbrev lent : Start → Lent
 lent e = record {
   time = e.args.t;
   connected = e.args.c;
@@ -39,7 +48,7 @@ lent e = record {
 }
 
 -- the function's entry, from the first test
-abbrev entry : goal.Else-not-parts_fit → goal.Start
+abbrev entry : goal.Else-not-parts_fit → Start
 entry c = c.before.before.before.before.before.before.before.before.before.before.before.before.before.before.before.before
 
 passed-7 : (c : goal.Else-not-parts_fit) → parts_fit (entry c).args.t.frames (entry c).args.c (lengths_of (lent (entry c))) ≡ true
@@ -49,21 +58,21 @@ passed-7 c = sym (c.parts_fit.ensures ∙ ap (parts_fit (entry c).args.t.frames 
 abbrev still : goal.Else-is_quiet → goal.Else-not-parts_fit
 still c = c.before.before
 
-abbrev looked : goal.After-look-k → goal.Else-not-parts_fit
+abbrev looked : After_look_k → goal.Else-not-parts_fit
 looked c = still c.before
 
 -- where it does not fit
-abbrev amiss : goal.Then-not-k → goal.After-look-k
+abbrev amiss : goal.Then-not-k → After_look_k
 amiss c = c.before.before
 
-abbrev first : goal.Else-not-state_fits → goal.After-look-k
+abbrev first : goal.Else-not-state_fits → After_look_k
 first c = amiss c.before.before
 
 passed-8 : (c : goal.Else-not-state_fits) → let e = (entry (looked (first c))).args in state_fits e.s e.v e.words.now e.samples.now (length e.pcm.now) (length e.table.now) ≡ true
 passed-8 c = sym c.state_fits.ensures ∙ not-false _ c.if-not-state_fits.false-raw
 
 -- past 8 and 9, as the look or the plain tests tell it
-abbrev past : goal.Joined-not-k → goal.After-look-k
+abbrev past : goal.Joined-not-k → After_look_k
 past c = c.before.before
 
 passed : (c : goal.Joined-not-k) → let e = (entry (looked (past c))).args in
@@ -93,7 +102,7 @@ pub quiet_outputs-requires : goal.quiet_outputs-requires
 quiet_outputs-requires c = let e = entry c.before.before.before.before in let l = lent e in let n = e.args.t.frames in (covers-as e.args.c.amp e.args.amp.now _ n (part_length n l.left (in_left l e.args.s e.args.v (passed-7 c.before.before.before.before))) (amp-covers l (passed-7 c.before.before.before.before)), covers-as e.args.c.amp e.args.amp.now _ n (part_length n l.right (in_right l e.args.s e.args.v (passed-7 c.before.before.before.before))) (amp-covers l (passed-7 c.before.before.before.before)))
 
 pub returns-then-is_quiet : goal.returns-then-is_quiet
-returns-then-is_quiet c = let e = entry c.before.before.before.before.before.before.before.before.before.before in block-promise (lent e) e.args.s e.args.v (quiet-out (lent e) e.args.s e.args.v (sym c.is_quiet.ensures ∙ c.if-is_quiet.true) (long _ e.args.s.players 512 e.well_formed.0.1.1.0.1.0.1) (passed-7 c.before.before.before.before.before.before.before.before.before.before) _ c.refused-then-is_quiet.ensures _ _ c.quiet_outputs.ensures.0 c.quiet_outputs.ensures.1 (same_length c) (same-length-2 c))
+returns-then-is_quiet c = let e = entry c.before.before.before.before.before.before.before.before.before.before in block-promise (lent e) e.args.s e.args.v (quiet-out (lent e) e.args.s e.args.v (sym c.is_quiet.ensures ∙ c.if-is_quiet.true) e.well_formed.0.1.1.0.1.0.1 (passed-7 c.before.before.before.before.before.before.before.before.before.before) _ c.refused-then-is_quiet.ensures _ _ c.quiet_outputs.ensures.0 c.quiet_outputs.ensures.1 (same_length c) (same-length-2 c))
 
 pub returns-then-not-state_fits : goal.returns-then-not-state_fits
 returns-then-not-state_fits c = let d = looked c.before.before.before.before.before in let e = entry d in block-promise (lent e) e.args.s e.args.v (block-8 (lent e) e.args.s e.args.v (passed-7 d) _ c.refused-then-not-state_fits.ensures (sym c.state_fits.ensures ∙ not-true _ c.if-not-state_fits.true-raw))
@@ -105,7 +114,7 @@ pub is_calm-requires : goal.is_calm-requires
 is_calm-requires c = let d = looked c.before.before in let e = entry d in gate-covers (lent e) (passed-7 d)
 
 pub tune_of-x-requires : goal.tune_of-x-requires
-tune_of-x-requires c = let d = looked c.before.before.before.before in let e = entry d in let p = (calm-asks (lent e) e.args.s e.args.v (calm (c)) (long _ e.args.s.players 512 e.well_formed.0.1.1.0.1.0.1) (long _ e.args.v.players.players 32 e.well_formed.1.0.1.1.1.1.1.1.1.1.1.0.1.1.0.1.0.1) (passed-7 d)) in (p.4, p.5)
+tune_of-x-requires c = let d = looked c.before.before.before.before in let e = entry d in let p = (calm-asks (lent e) e.args.s e.args.v (calm (c)) e.well_formed.0.1.1.0.1.0.1 e.well_formed.1.0.1.1.1.1.1.1.1.1.1.0.1.1.0.1.0.1 (passed-7 d)) in (p.4, p.5)
 
 pub slice_bounds-play_calm-end : goal.slice_bounds-play_calm-end
 slice_bounds-play_calm-end c = let d = looked c.before.before.before.before.before.before in let e = entry d in in_left (lent e) e.args.s e.args.v (passed-7 d)
@@ -114,14 +123,14 @@ pub slice_bounds-play_calm-end-then-is_calm : goal.slice_bounds-play_calm-end-th
 slice_bounds-play_calm-end-then-is_calm c = let d = looked c.before.before.before.before.before.before.before in let e = entry d in in_right (lent e) e.args.s e.args.v (passed-7 d)
 
 pub play_calm-m-requires : goal.play_calm-m-requires
-play_calm-m-requires c = let d = looked c.before.before.before.before.before.before.before.before in let e = entry d in let p = (calm-asks (lent e) e.args.s e.args.v (calm c.before.before.before.before) (long _ e.args.s.players 512 e.well_formed.0.1.1.0.1.0.1) (long _ e.args.v.players.players 32 e.well_formed.1.0.1.1.1.1.1.1.1.1.1.0.1.1.0.1.0.1) (passed-7 d)) in (p.0, p.1, p.2, p.3)
+play_calm-m-requires c = let d = looked c.before.before.before.before.before.before.before.before in let e = entry d in let p = (calm-asks (lent e) e.args.s e.args.v (calm c.before.before.before.before) e.well_formed.0.1.1.0.1.0.1 e.well_formed.1.0.1.1.1.1.1.1.1.1.1.0.1.1.0.1.0.1 (passed-7 d)) in (p.0, p.1, p.2, p.3)
 
 pub returns-then-not-m : goal.returns-then-not-m
 returns-then-not-m c = let d = looked c.before.before.before.before.before.before.before.before.before.before.before.before.before.before.before.before.before.before.before in
     let e = entry d in
     let m = c.play_calm-m in
     block-promise (lent e) e.args.s e.args.v
-    (calm-out (lent e) e.args.s e.args.v (calm c.before.before.before.before.before.before.before.before.before.before.before.before.before.before.before) (long _ e.args.s.players 512 e.well_formed.0.1.1.0.1.0.1) (long _ e.args.v.players.players 32 e.well_formed.1.0.1.1.1.1.1.1.1.1.1.0.1.1.0.1.0.1) (passed-7 d) _ (ap (λ (z : Called). z.answer) c.refused-then-not-m.ensures) _ _
+    (calm-out (lent e) e.args.s e.args.v (calm c.before.before.before.before.before.before.before.before.before.before.before.before.before.before.before) e.well_formed.0.1.1.0.1.0.1 e.well_formed.1.0.1.1.1.1.1.1.1.1.1.0.1.1.0.1.0.1 (passed-7 d) _ (ap (λ (z : Called). z.answer) c.refused-then-not-m.ensures) _ _
     (left_by _ _ _ _ _ e.args.s e.args.v _ c.tune_of-x.ensures _ m.ensures.0 _
     (ap (λ (z : Called). record { session = z.session; voice = z.voice }) c.refused-then-not-m.ensures ∙ stays-as _ e.args.s e.args.v _ m.ensures.2 c.if-m-eq0.true _ m.ensures.1 c.if-not-m.true))
     (same-length-3 c) (same-length-4 c))
@@ -131,7 +140,7 @@ returns-then-is_calm c = let d = looked c.before.before.before.before.before.bef
     let e = entry d in
     let m = c.play_calm-m in
     block-promise (lent e) e.args.s e.args.v
-    (calm-out (lent e) e.args.s e.args.v (calm c.before.before.before.before.before.before.before.before.before.before.before.before.before.before.before.before) (long _ e.args.s.players 512 e.well_formed.0.1.1.0.1.0.1) (long _ e.args.v.players.players 32 e.well_formed.1.0.1.1.1.1.1.1.1.1.1.0.1.1.0.1.0.1) (passed-7 d) _ refl _ _
+    (calm-out (lent e) e.args.s e.args.v (calm c.before.before.before.before.before.before.before.before.before.before.before.before.before.before.before.before) e.well_formed.0.1.1.0.1.0.1 e.well_formed.1.0.1.1.1.1.1.1.1.1.1.0.1.1.0.1.0.1 (passed-7 d) _ refl _ _
     (left_by _ _ _ _ _ e.args.s e.args.v _ c.tune_of-x.ensures _ m.ensures.0 _ c.settle-b.ensures.0)
     (same-length-5 c) (same-length-6 c))
 
@@ -142,7 +151,7 @@ pub slice_bounds-play_block-end-2 : goal.slice_bounds-play_block-end-2
 slice_bounds-play_block-end-2 c = let d = looked c.before.before.before.before.before in let e = entry d in in_right (lent e) e.args.s e.args.v (passed-7 d)
 
 pub play_block-b-requires : goal.play_block-b-requires
-play_block-b-requires c = let d = looked c.before.before.before.before.before.before in let e = entry d in let p = passed c.before.before.before.before in ready (lent e) e.args.s e.args.v (long _ e.args.v.players.players 32 e.well_formed.1.0.1.1.1.1.1.1.1.1.1.0.1.1.0.1.0.1) (passed-7 d) p.0 p.1
+play_block-b-requires c = let d = looked c.before.before.before.before.before.before in let e = entry d in let p = passed c.before.before.before.before in ready (lent e) e.args.s e.args.v e.well_formed.1.0.1.1.1.1.1.1.1.1.1.0.1.1.0.1.0.1 (passed-7 d) p.0 p.1
 
 pub returns : goal.returns
 returns c = let d = looked c.before.before.before.before.before.before.before.before.before.before.before.before.before in let e = entry d in let p = passed c.before.before.before.before.before.before.before.before.before.before.before in block-promise (lent e) e.args.s e.args.v (block_out (lent e) e.args.s e.args.v (passed-7 d) p.0 p.1 _ _ _ c.play_block-b.ensures.0 (same-length-7 c) (same-length-8 c))

@@ -18,7 +18,7 @@ sound_all-m-requires c = let k = c.clear_both.auto in
 pub amplify_both-requires : goal.amplify_both-requires
 amplify_both-requires c = let k = c.clear_both.auto in
     let m = c.sound_all-m in
-    (covers-as c.args.on c.args.amp.now _ (length c.args.left.now) (m.auto.1.1.1.1.1.0 ∙ k.0) c.requires.3, covers-as c.args.on c.args.amp.now _ (length c.args.left.now) (m.auto.1.1.1.1.1.1.0 ∙ k.1.0 ∙ c.requires.2) c.requires.3)
+    (covers-as c.args.on c.args.amp.now _ (length c.args.left.now) (m.auto.left ∙ k.0) c.requires.3, covers-as c.args.on c.args.amp.now _ (length c.args.left.now) (m.auto.right ∙ k.1.0 ∙ c.requires.2) c.requires.3)
 
 pub returns : goal.returns
 returns c = let a = c.args in

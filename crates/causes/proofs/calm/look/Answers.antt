@@ -8,9 +8,15 @@ use Rattle.causes.specs.Calm.{look_tests, look_fits}
 use Rattle.causes.proofs.Calming.{own-fits}
 use Rattle.causes.proofs.Listing.{misfits}
 use Rattle.causes.proofs.calm.look.Goals as goal
+use Rattle.causes.proofs.calm.look.Lts as lts
+use Rattle.causes.proofs.calm.look.Reads as reads
+use Rattle.causes.proofs.calm.look.Tie as tie
+
+abbrev Start : Type 0
+Start = lts.Start tie.the-claims reads.Pre reads.Post
 
 -- the tests, as the call was lent what they read
-abbrev asked : goal.Start → List Bool
+abbrev asked : Start → List Bool
 asked e = look_tests e.args.t e.args.words.now e.args.samples.now e.args.frames e.args.table e.args.s e.args.v
 
 pub returns-then-not-rest_fits : goal.returns-then-not-rest_fits

@@ -8,9 +8,15 @@ use borrow.Author.Tests.{not-true, not-false, eq-eqb, ne_eqb}
 use Rattle.program.proofs.Checks.{every-no, after, final}
 use Rattle.causes.specs.Quiet.{quiet_tests, is_quiet}
 use Rattle.causes.proofs.quiet.is_quiet.Goals as goal
+use Rattle.causes.proofs.quiet.is_quiet.Lts as lts
+use Rattle.causes.proofs.quiet.is_quiet.Reads as reads
+use Rattle.causes.proofs.quiet.is_quiet.Tie as tie
+
+abbrev Start : Type 0
+Start = lts.Start tie.the-claims reads.Pre reads.Post
 
 -- the tests, as the call was lent what they read
-abbrev asked : goal.Start → List Bool
+abbrev asked : Start → List Bool
 asked e = quiet_tests e.args.t e.args.c e.args.gate.now e.args.words.now e.args.samples.now e.args.frames e.args.table e.args.s e.args.v
 
 pub returns-then-v-ne0 : goal.returns-then-v-ne0

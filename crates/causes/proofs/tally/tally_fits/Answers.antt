@@ -21,7 +21,7 @@ pub returns-then-is_amiss : goal.returns-then-is_amiss
 returns-then-is_amiss c = tally-amiss c.args.regions c.args.voice c.args.s _ _ c.used-n.ensures c.used-live.ensures _ refl _ _ c.loop-i.invariant.2 _ c.loop-i-test.true _ c.is_amiss.ensures c.if-is_amiss.true
 
 pub place_after-p-requires : goal.place_after-p-requires
-place_after-p-requires c = (c.loop-i.invariant.1, long _ c.args.s.voices.ids 16 c.well_formed.0.1.1.1.1.1.0.1.1.0.1.0.1, c.loop-i.invariant.3)
+place_after-p-requires c = (c.loop-i.invariant.1, c.well_formed.0.1.1.1.1.1.0.1.1.0.1.0.1, c.loop-i.invariant.3)
 
 pub returns-then-live-p : goal.returns-then-live-p
 returns-then-live-p c = tally-stray c.args.regions c.args.voice c.args.s _ _ c.used-n.ensures c.used-live.ensures _ refl _ _ c.loop-i.invariant.2 _ c.loop-i-test.true (sym c.is_amiss.ensures ∙ c.if-is_amiss.false) _ c.place_after-p.ensures.0 (omega (arith, take-few c.used-live.result c.args.s.voices.ids, c.if-live-p.true))
@@ -33,7 +33,7 @@ pub bounds-counts-p : goal.bounds-counts-p
 bounds-counts-p c = omega (arith, c.loop-i.invariant.1, c.loop-i.invariant.2.size, c.if-live-p.false)
 
 pub returns-then-k-ge32 : goal.returns-then-k-ge32
-returns-then-k-ge32 c = tally-over c.args.regions c.args.voice c.args.s _ _ c.used-n.ensures c.used-live.ensures _ refl _ _ c.loop-i.invariant.2 _ c.loop-i-test.true (sym c.is_amiss.ensures ∙ c.if-is_amiss.false) _ c.place_after-p.ensures.0 (rw (length-take-le c.used-live.result c.args.s.voices.ids (omega (arith, c.loop-i.invariant.1, long _ c.args.s.voices.ids 16 c.well_formed.0.1.1.1.1.1.0.1.1.0.1.0.1))) c.if-live-p.false) c.if-k-ge32.true
+returns-then-k-ge32 c = tally-over c.args.regions c.args.voice c.args.s _ _ c.used-n.ensures c.used-live.ensures _ refl _ _ c.loop-i.invariant.2 _ c.loop-i-test.true (sym c.is_amiss.ensures ∙ c.if-is_amiss.false) _ c.place_after-p.ensures.0 (rw (length-take-le c.used-live.result c.args.s.voices.ids (omega (arith, c.loop-i.invariant.1, c.well_formed.0.1.1.1.1.1.0.1.1.0.1.0.1))) c.if-live-p.false) c.if-k-ge32.true
 
 pub overflow_add-counts : goal.overflow_add-counts
 overflow_add-counts c = record { fits = omega (arith, c.if-k-ge32.false) }
@@ -51,7 +51,7 @@ pub loop-i-smaller : goal.loop-i-smaller
 loop-i-smaller c = omega (arith, c.loop-i-test.true)
 
 pub loop-i-preserved : goal.loop-i-preserved
-loop-i-preserved c = (c.loop-i.invariant.0, c.loop-i.invariant.1, tally-next c.args.regions c.args.voice c.args.s _ _ c.used-n.ensures c.used-live.ensures _ refl _ _ c.loop-i.invariant.2 _ c.loop-i-test.true (sym c.is_amiss.ensures ∙ c.if-is_amiss.false) _ c.place_after-p.ensures.0 (rw (length-take-le c.used-live.result c.args.s.voices.ids (omega (arith, c.loop-i.invariant.1, long _ c.args.s.voices.ids 16 c.well_formed.0.1.1.1.1.1.0.1.1.0.1.0.1))) c.if-live-p.false) c.if-k-ge32.false _ refl, c.place_after-p.ensures.1)
+loop-i-preserved c = (c.loop-i.invariant.0, c.loop-i.invariant.1, tally-next c.args.regions c.args.voice c.args.s _ _ c.used-n.ensures c.used-live.ensures _ refl _ _ c.loop-i.invariant.2 _ c.loop-i-test.true (sym c.is_amiss.ensures ∙ c.if-is_amiss.false) _ c.place_after-p.ensures.0 (rw (length-take-le c.used-live.result c.args.s.voices.ids (omega (arith, c.loop-i.invariant.1, c.well_formed.0.1.1.1.1.1.0.1.1.0.1.0.1))) c.if-live-p.false) c.if-k-ge32.false _ refl, c.place_after-p.ensures.1)
 
 pub returns : goal.returns
 returns c = tally-done c.args.regions c.args.voice c.args.s _ _ c.used-n.ensures c.used-live.ensures _ refl _ _ c.loop-i.invariant.2 c.loop-i-test.false

@@ -9,7 +9,7 @@ pub loop-i-init : goal.loop-i-init
 loop-i-init c = (
       omega arith,
       rw c.used-n.ensures (used-below 256 c.args.chosen.count),
-      long _ c.args.chosen.regions 256 c.well_formed.1.0.1.1.0.1.0.1,
+      c.well_formed.1.0.1.1.0.1.0.1,
       refl,
       refl,
     )

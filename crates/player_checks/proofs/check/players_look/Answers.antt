@@ -12,7 +12,7 @@ use Rattle.player_checks.proofs.check.players_look.Goals as goal
 pub loop-k-init : goal.loop-k-init
 loop-k-init c = let a = c.args.ps in
     let b : c.in_use-n.result ≤ 32 = rw c.in_use-n.ensures (used-below 32 a.count) in
-    (omega arith, b, long _ a.players 32 c.well_formed.0.1.1.0.1.0.1, looking-none _ _ _ _)
+    (omega arith, b, c.well_formed.0.1.1.0.1.0.1, looking-none _ _ _ _)
 
 pub offset_bounds-ps-k : goal.offset_bounds-ps-k
 offset_bounds-ps-k c = record { fits = omega (arith, c.loop-k.invariant.1) }

@@ -13,7 +13,7 @@ use Rattle.players.proofs.Passing.{left_of, passes, fails, ends}
 use Rattle.player_checks.proofs.check.samples_fit.Goals as goal
 
 pub loop-k-init : goal.loop-k-init
-loop-k-init c = let s = c.args.ps.players in let m : length s ≡ 32 = long _ s 32 c.well_formed.0.1.1.0.1.0.1 in let b : c.in_use-n.result ≤ 32 = rw c.in_use-n.ensures (used-below 32 c.args.ps.count) in (omega arith, b, m, refl)
+loop-k-init c = let s = c.args.ps.players in let m : length s ≡ 32 = c.well_formed.0.1.1.0.1.0.1 in let b : c.in_use-n.result ≤ 32 = rw c.in_use-n.ensures (used-below 32 c.args.ps.count) in (omega arith, b, m, refl)
 
 pub offset_bounds-ps-k : goal.offset_bounds-ps-k
 offset_bounds-ps-k c = record { fits = omega (arith, c.loop-k.invariant.1) }

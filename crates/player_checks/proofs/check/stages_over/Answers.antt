@@ -15,7 +15,7 @@ use Rattle.players.proofs.Passing.{left_of, passes, fails, ends}
 use Rattle.player_checks.proofs.check.stages_over.Goals as goal
 
 pub loop-k-init : goal.loop-k-init
-loop-k-init c = let s = c.args.p.slots in let n : length s ≡ 6 = long _ s 6 c.well_formed.0.1.1.1.1.0.1.0.1 in (omega arith, n, ap (λ l. every (map slot_fits l)) (sym (take_all 6 s (omega arith))))
+loop-k-init c = let s = c.args.p.slots in let n : length s ≡ 6 = c.well_formed.0.1.1.1.1.0.1.0.1 in (omega arith, n, ap (λ l. every (map slot_fits l)) (sym (take_all 6 s (omega arith))))
 
 pub returns-then-not-slot_fits : goal.returns-then-not-slot_fits
 unfolding stages_over

@@ -22,8 +22,8 @@ loop-i-preserved c = let ps = c.args.ps in
       omega arith,
       c.loop-i.invariant.1,
       c.loop-i.invariant.2,
-      elim c.if-hears_gate.branch [ then-hears_gate w ↦ w.EQ0 ∙ walk-hit hears_gate let_go ps c.loop-i.t c.loop-i.i _ c.loop-i.invariant.3 _ told _ w.if-hears_gate.true w.let_go.ensures | else-hears_gate w ↦ w.EQ0 ∙ walk-miss hears_gate let_go ps c.loop-i.t c.loop-i.i _ c.loop-i.invariant.3 _ told w.if-hears_gate.false ],
-      elim c.if-hears_gate.branch [ then-hears_gate w ↦ w.EQ1 ∙ killed-hit ps.players c.loop-i.i _ _ (omega (arith, c.loop-i.invariant.2)) (untouched _ ps c.loop-i.t c.loop-i.i _ c.loop-i.invariant.3) _ c.loop-i.invariant.4 _ told _ _ w.if-hears_gate.true w.delays.ensures w.either-killed.ensures | else-hears_gate w ↦ w.EQ1 ∙ killed-miss ps.players c.loop-i.i _ _ (omega (arith, c.loop-i.invariant.2)) (untouched _ ps c.loop-i.t c.loop-i.i _ c.loop-i.invariant.3) _ c.loop-i.invariant.4 _ told w.if-hears_gate.false ],
+      elim c.if-hears_gate.branch [ then-hears_gate w ↦ w.t-is ∙ walk-hit hears_gate let_go ps c.loop-i.t c.loop-i.i _ c.loop-i.invariant.3 _ told _ w.if-hears_gate.true w.let_go.ensures | else-hears_gate w ↦ w.t-is ∙ walk-miss hears_gate let_go ps c.loop-i.t c.loop-i.i _ c.loop-i.invariant.3 _ told w.if-hears_gate.false ],
+      elim c.if-hears_gate.branch [ then-hears_gate w ↦ w.killed-is ∙ killed-hit ps.players c.loop-i.i _ _ (omega (arith, c.loop-i.invariant.2)) (untouched _ ps c.loop-i.t c.loop-i.i _ c.loop-i.invariant.3) _ c.loop-i.invariant.4 _ told _ _ w.if-hears_gate.true w.delays.ensures w.either-killed.ensures | else-hears_gate w ↦ w.killed-is ∙ killed-miss ps.players c.loop-i.i _ _ (omega (arith, c.loop-i.invariant.2)) (untouched _ ps c.loop-i.t c.loop-i.i _ c.loop-i.invariant.3) _ c.loop-i.invariant.4 _ told w.if-hears_gate.false ],
     )
 
 pub returns : goal.returns
