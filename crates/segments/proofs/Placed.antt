@@ -15,7 +15,7 @@ use Rattle.interp.specs.declared.sinc.SincSpan.{SincSpan}
 use Rattle.lanes.specs.declared.four.Four.{Four}
 use Rattle.lanes.specs.declared.four.Starts.{Starts}
 use Rattle.segments.specs.declared.ahead.Next.{Next}
-use Rattle.segments.specs.Ahead.{Alike, Singles, Placed}
+use Rattle.segments.specs.Ahead.{Singles, Placed}
 use Rattle.segments.proofs.Fours.{Begun}
 use Rattle.segments.proofs.Kept.{one_way}
 

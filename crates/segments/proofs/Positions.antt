@@ -1,16 +1,16 @@
 -- A position stays within 0 to 2 ^ 33: where a frame is read it is at most 2 ^ 32, and a step is at most 4,096. Assumes nothing.
 use mathlib.Core.Path.{◌≡◌, refl, sym, ap, subst, ◌∙◌}
-use mathlib.Core.Bool.{Bool, true, false, not, true≢false, ◌&&◌, ◌||◌, cond}
+use mathlib.Core.Bool.{Bool, true, false, not, true≢false, ◌&&◌, cond}
 use Prim.Native.Nat.{ℕ, suc, ◌+◌, ◌-◌, ◌*◌, ◌/◌, ◌^◌, ◌≤◌, ◌<◌, min}
 use native.Mathlib.Nat.{lt_irrefl, mul-le-mul_right, mul-pos, zero-mul, div-mul-le_self, div-lt_iff_lt-mul}
 use native.Mathlib.Numerals.{add-one}
 use native.Mathlib.Omega.{arith}
 use borrow.Author.Tests.{le-ltb}
-use lib.Dec.{T, ltb, leb, eqb, ltb→lt, lt→ltb, leb→le, nleb→lt, nltb→le, eqb→eq}
+use lib.Dec.{T, ltb, leb, ltb→lt, lt→ltb, leb→le, nleb→lt, nltb→le}
 use lib.IntN.{ℤ, pos}
 use lib.Ieee.Bits.{is_true}
 use lib.Ieee.Exact.{HasValue}
-use lib.Ieee.Fits.{down_pos, and_l}
+use lib.Ieee.Fits.{down_pos}
 use lib.Ieee.Order.{le_of_values, round_mono}
 use lib.Ieee.Scale.{round_same}
 use lib.Ieee.{Float, nan, inf, fin, binary64, up, down, round, sum, add, sub, neg, le, lt, eq, of_bits, to_unsigned, fits}
@@ -24,7 +24,7 @@ use Rattle.interp.proofs.Looping.{double-value, wraps, stays}
 use Rattle.program.specs.declared.region.LoopMode.{LoopMode}
 use Rattle.program.specs.declared.region.LoopMode.TheVariants.{NoLoop, OneShot, Continuous, Sustain}
 use Rattle.player.proofs.Within.{round-within, zero_of, left}
-use Rattle.player.specs.Bounds.{Step, most, LoopOk, Wrapped, bound}
+use Rattle.player.specs.Bounds.{Step, LoopOk, Wrapped, bound}
 use Rattle.segments.specs.Source.{at_end, current_loop}
 use Rattle.segments.specs.Segment.{ends_now, fast_off, frame_with, frame_after}
 use Rattle.segments.specs.declared.source.Source.{Source}

@@ -7,13 +7,13 @@ use native.Mathlib.Nat.{add-zero, add-suc, mul-one, mul-pos, mul_right_comm, eq_
 use native.Mathlib.Numerals.{add-one}
 use native.Mathlib.Omega.{arith}
 use borrow.Author.Tests.{not-true, not-false}
-use lib.Dec.{T, ltb, leb, eqb, eqb→eq, le→leb, ltb→lt, nltb→le}
-use lib.IntN.{ℤ, pos}
+use lib.Dec.{T, ltb, eqb, eqb→eq, le→leb, ltb→lt, nltb→le}
+use lib.IntN.{pos}
 use lib.Signed.{lt_z}
 use lib.ListN.{length, get_or}
-use lib.Ieee.Back.{round_whole, whole_unique, unsigned_back}
+use lib.Ieee.Back.{whole_unique, unsigned_back}
 use lib.Ieee.Exact.{HasValue}
-use lib.Ieee.Fits.{down_pos, round-fits, and_l, and_r}
+use lib.Ieee.Fits.{down_pos, round-fits}
 use lib.Ieee.Scale.{round_same}
 use lib.Ieee.{Float, nan, inf, fin, binary64, up, down, round, sum, add, sub, le, lt, eq, ne, of_bits, of_int, to_unsigned, in_float, fits}
 use Rattle.exact.specs.Single.{◌⊗◌, f0}
@@ -36,7 +36,7 @@ use Rattle.player.specs.declared.Hot.{Hot}
 use Rattle.player.specs.declared.Cold.{Cold}
 use Rattle.segments.specs.declared.segment.Frame.{Frame}
 use Rattle.player.specs.Bounds.{LoopOk}
-use Rattle.segments.specs.Source.{Lent, current_loop, place_in, at_end, is_unity, frame_of, crossfaded, in_fade, heard_in, read_frame, at_pos}
+use Rattle.segments.specs.Source.{Lent, current_loop, place_in, at_end, is_unity, frame_of, crossfaded, in_fade, read_frame, at_pos}
 use Rattle.segments.specs.Segment.{Run, frame_next, frame_after, ends_now, run_one, run_for, added, share}
 use Rattle.segments.specs.Plain.{sustains, is_resting, is_plain, is_silent, plain_end, FadeSmall, plain_share, added_run, run_from}
 use Rattle.player.proofs.Within.{round-within}

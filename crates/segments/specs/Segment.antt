@@ -1,5 +1,5 @@
 -- A player's frames between two events, added to a part of each output. Definitions only.
-use Rattle.std.specs.Prelude.{◌≡◌, Bool, true, false, not, ◌&&◌, cond, List, ℕ, zero, suc, ℤ, pos, ◌-ℤ◌, Float, length, get_or, set}
+use Rattle.std.specs.Prelude.{Bool, true, false, not, ◌&&◌, cond, List, ℕ, zero, suc, ℤ, pos, ◌-ℤ◌, Float, length, get_or, set}
 use Rattle.std.specs.Int.Signed.{lt_z}
 use Rattle.std.specs.Float.{nan, binary32}
 use Rattle.std.specs.Float.Ieee.{of_bits}

@@ -1,5 +1,5 @@
 -- One frame of a player's sample, before its filters. Definitions only.
-use Rattle.std.specs.Prelude.{Bool, true, false, not, ◌&&◌, cond, List, ℕ, ◌+◌, ltb, Float}
+use Rattle.std.specs.Prelude.{Bool, true, false, ◌&&◌, cond, List, ℕ, ◌+◌, ltb, Float}
 use Rattle.std.specs.Float.{binary64, binary32}
 use Rattle.std.specs.Float.Ieee.{add, sub, div, le, eq, of_bits, to_unsigned}
 use Rattle.exact.specs.Narrow.{narrowed}

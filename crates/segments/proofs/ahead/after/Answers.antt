@@ -2,7 +2,6 @@ use mathlib.Core.Path.{sym, subst}
 use lib.Dec.{T}
 use lib.Ieee.{of_bits}
 use Rattle.segments.proofs.Positions.{moved}
-use borrow.Author.Rules.{rules}
 use Rattle.segments.proofs.ahead.after.Goals as goal
 
 pub place-requires : goal.place-requires

@@ -1,10 +1,6 @@
-use mathlib.Core.Path.{◌≡◌, refl, sym, subst}
-use Prim.Native.Nat.{◌≤◌, ◌-◌, ◌%◌}
+use mathlib.Core.Path.{refl, sym, subst}
 use native.Mathlib.Omega.{arith}
-use lib.ListN.{length}
-use Rattle.interp.specs.Position.{Position}
 use Rattle.player.specs.Bounds.{LoopOk}
-use Rattle.segments.specs.Ahead.{Kept, Placed}
 use Rattle.segments.proofs.Placed.{none-placed}
 use Rattle.segments.proofs.Positions.{current-ok}
 use Rattle.segments.proofs.ahead.ahead.Goals as goal

@@ -1,12 +1,8 @@
-use mathlib.Core.Path.{◌≡◌, refl, sym, subst}
+use mathlib.Core.Path.{◌≡◌}
 use Prim.Native.Nat.{◌≤◌, ◌-◌, ◌%◌}
-use native.Mathlib.Omega.{arith}
 use lib.ListN.{length}
 use Rattle.interp.specs.Position.{Position}
-use Rattle.player.specs.Bounds.{LoopOk}
 use Rattle.segments.specs.Ahead.{Kept, Placed}
-use Rattle.segments.proofs.Placed.{none-placed}
-use Rattle.segments.proofs.Positions.{current-ok}
 use Rattle.segments.proofs.ahead.ahead.Given as goal
 
 abbrev pub invariant-loop-at : goal.invariant-loop-at

@@ -4,21 +4,18 @@ use Rattle.segments.proofs.Placed.{all-singles, placed}
 use borrow.Author.Rules.{rules}
 use Rattle.segments.proofs.ahead.four.Goals as goal
 
-begun : (c : goal.After-fraction-4) → Begun c.args.cold.span.half c.args.x (record { n0 = c.start_at.result; n1 = c.start_at-2.result; n2 = c.start_at-3.result; n3 = c.start_at-4.result }) (record { x0 = c.fraction.result; x1 = c.fraction-2.result; x2 = c.fraction-3.result; x3 = c.fraction-4.result })
-begun c = record {
-  n0 = c.start_at.ensures;
-  n1 = c.start_at-2.ensures;
-  n2 = c.start_at-3.ensures;
-  n3 = c.start_at-4.ensures;
-  f0 = c.fraction.ensures;
-  f1 = c.fraction-2.ensures;
-  f2 = c.fraction-3.ensures;
-  f3 = c.fraction-4.ensures;
-}
-
 pub sinc_four_pair-v-requires : goal.sinc_four_pair-v-requires
 sinc_four_pair-v-requires c = let p = c.requires in
-    let b = begun c.before.before.before.before in
+    let b : Begun c.args.cold.span.half c.args.x (record { n0 = c.start_at.result; n1 = c.start_at-2.result; n2 = c.start_at-3.result; n3 = c.start_at-4.result }) (record { x0 = c.fraction.result; x1 = c.fraction-2.result; x2 = c.fraction-3.result; x3 = c.fraction-4.result }) = record {
+      n0 = c.start_at.ensures;
+      n1 = c.start_at-2.ensures;
+      n2 = c.start_at-3.ensures;
+      n3 = c.start_at-4.ensures;
+      f0 = c.fraction.ensures;
+      f1 = c.fraction-2.ensures;
+      f2 = c.fraction-3.ensures;
+      f3 = c.fraction-4.ensures;
+    } in
     let q = all-parts _ _ _ _ _ b p.1 p.2.inside.least p.0 in
     (p.4, p.2.inside, q, in-frames _ _ _ _ _ b p.1 _ refl, in-frames _ _ _ _ _ b p.1 _ (p.2.same c.if-cold.true), p.5, p.6, λ t. p.8 _ q (all-singles _ _ _ _ b) (c.same-placed.ensures t))
 
@@ -27,7 +24,16 @@ keep_four-requires c = c.requires.3
 
 pub sinc_four-l-requires : goal.sinc_four-l-requires
 sinc_four-l-requires c = let p = c.requires in
-    let b = begun c.before.before.before.before in
+    let b : Begun c.args.cold.span.half c.args.x (record { n0 = c.start_at.result; n1 = c.start_at-2.result; n2 = c.start_at-3.result; n3 = c.start_at-4.result }) (record { x0 = c.fraction.result; x1 = c.fraction-2.result; x2 = c.fraction-3.result; x3 = c.fraction-4.result }) = record {
+      n0 = c.start_at.ensures;
+      n1 = c.start_at-2.ensures;
+      n2 = c.start_at-3.ensures;
+      n3 = c.start_at-4.ensures;
+      f0 = c.fraction.ensures;
+      f1 = c.fraction-2.ensures;
+      f2 = c.fraction-3.ensures;
+      f3 = c.fraction-4.ensures;
+    } in
     let q = all-parts _ _ _ _ _ b p.1 p.2.inside.least p.0 in
     (p.4, p.2.inside, q, in-frames _ _ _ _ _ b p.1 _ refl, p.5, p.6, λ t. p.8 _ q (all-singles _ _ _ _ b) (c.same-placed.ensures t))
 
@@ -37,15 +43,35 @@ keep_four-requires-else-cold c = c.requires.3
 pub returns-then-cold : goal.returns-then-cold
 returns-then-cold c = let p = c.requires in
     let v = c.sinc_four_pair-v.ensures in
-    let b = begun c.before.before.before.before.before.before.before.before.before.before.before in
-    let w = both_read _ _ _ _ _ _ _ _ p.2.inside.least (record { p0 = search rules; p1 = search rules; p2 = search rules; p3 = search rules }) p.0 b p.1 v.0 _ c.if-cold.true v.1 in
+    let b : Begun c.args.cold.span.half c.args.x (record { n0 = c.start_at.result; n1 = c.start_at-2.result; n2 = c.start_at-3.result; n3 = c.start_at-4.result }) (record { x0 = c.fraction.result; x1 = c.fraction-2.result; x2 = c.fraction-3.result; x3 = c.fraction-4.result }) = record {
+      n0 = c.start_at.ensures;
+      n1 = c.start_at-2.ensures;
+      n2 = c.start_at-3.ensures;
+      n3 = c.start_at-4.ensures;
+      f0 = c.fraction.ensures;
+      f1 = c.fraction-2.ensures;
+      f2 = c.fraction-3.ensures;
+      f3 = c.fraction-4.ensures;
+    } in
+    let d : Doubles c.args.x = record { p0 = search rules; p1 = search rules; p2 = search rules; p3 = search rules } in
+    let w = both_read _ _ _ _ _ _ _ _ p.2.inside.least d p.0 b p.1 v.0 _ c.if-cold.true v.1 in
     let k = c.keep_four.ensures in
     (v.2, v.3, keeps-four _ _ _ _ _ _ _ _ _ _ _ _ _ p.3 w k.0 k.1 k.2 p.7, placed _ _ _ _ (all-parts _ _ _ _ _ b p.1 p.2.inside.least p.0) (all-singles _ _ _ _ b) v.4)
 
 pub returns-else-cold : goal.returns-else-cold
 returns-else-cold c = let p = c.requires in
     let v = c.sinc_four-l.ensures in
-    let b = begun c.before.before.before.before.before.before.before.before.before in
-    let w = mono-read _ _ _ _ _ _ _ _ p.2.inside.least (record { p0 = search rules; p1 = search rules; p2 = search rules; p3 = search rules }) p.0 b p.1 v.0 c.if-cold.false in
+    let b : Begun c.args.cold.span.half c.args.x (record { n0 = c.start_at.result; n1 = c.start_at-2.result; n2 = c.start_at-3.result; n3 = c.start_at-4.result }) (record { x0 = c.fraction.result; x1 = c.fraction-2.result; x2 = c.fraction-3.result; x3 = c.fraction-4.result }) = record {
+      n0 = c.start_at.ensures;
+      n1 = c.start_at-2.ensures;
+      n2 = c.start_at-3.ensures;
+      n3 = c.start_at-4.ensures;
+      f0 = c.fraction.ensures;
+      f1 = c.fraction-2.ensures;
+      f2 = c.fraction-3.ensures;
+      f3 = c.fraction-4.ensures;
+    } in
+    let d : Doubles c.args.x = record { p0 = search rules; p1 = search rules; p2 = search rules; p3 = search rules } in
+    let w = mono-read _ _ _ _ _ _ _ _ p.2.inside.least d p.0 b p.1 v.0 c.if-cold.false in
     let k = c.keep_four-else-cold.ensures in
     (v.1, v.2, keeps-four _ _ _ _ _ _ _ _ _ _ _ _ _ p.3 w k.0 k.1 k.2 p.7, placed _ _ _ _ (all-parts _ _ _ _ _ b p.1 p.2.inside.least p.0) (all-singles _ _ _ _ b) v.3)

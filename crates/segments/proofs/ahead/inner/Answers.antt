@@ -1,6 +1,5 @@
 use native.Mathlib.Omega.{arith}
 use Rattle.segments.proofs.Kept.{never}
-use borrow.Author.Rules.{rules}
 use Rattle.segments.proofs.ahead.inner.Goals as goal
 
 pub returns-then-t-half-2 : goal.returns-then-t-half-2

@@ -1,7 +1,6 @@
 use mathlib.Core.Path.{◌≡◌}
 use mathlib.Core.Bool.{true}
 use Rattle.segments.proofs.Kept.{never}
-use borrow.Author.Rules.{rules}
 use Rattle.segments.proofs.ahead.inside.Goals as goal
 
 pub returns-then-inner-3 : goal.returns-then-inner-3

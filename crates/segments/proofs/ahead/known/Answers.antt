@@ -1,5 +1,4 @@
 use Rattle.segments.proofs.Kept.{never}
-use borrow.Author.Rules.{rules}
 use Rattle.segments.proofs.ahead.known.Goals as goal
 
 pub returns-in-Linear : goal.returns-in-Linear

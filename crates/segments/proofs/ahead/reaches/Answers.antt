@@ -1,4 +1,3 @@
-use borrow.Author.Rules.{rules}
 use Rattle.segments.proofs.ahead.reaches.Goals as goal
 
 pub returns : goal.returns

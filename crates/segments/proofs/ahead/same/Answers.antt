@@ -1,5 +1,4 @@
 use Rattle.segments.proofs.Kept.{never}
-use borrow.Author.Rules.{rules}
 use Rattle.segments.proofs.ahead.same.Goals as goal
 
 pub returns-else-f-g-3 : goal.returns-else-f-g-3

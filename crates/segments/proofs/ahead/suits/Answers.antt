@@ -1,11 +1,10 @@
 use mathlib.Core.Path.{◌≡◌, sym, subst, ◌∙◌}
 use mathlib.Core.Bool.{true}
-use mathlib.Core.Logic.{⊎_elim}
 use native.Mathlib.Omega.{arith}
 use lib.Dec.{T}
 use Rattle.segments.proofs.Kept.{never}
-use borrow.Author.Rules.{rules}
 use Rattle.segments.proofs.ahead.suits.Goals as goal
+use Rattle.segments.proofs.ahead.suits.Goals.{then-cold-3+else-b-a, else-cold-3}
 
 pub returns-then-cold : goal.returns-then-cold
 returns-then-cold c = never
@@ -26,4 +25,7 @@ pub returns-in-Hermite : goal.returns-in-Hermite
 returns-in-Hermite c = never
 
 pub returns-in-Sinc : goal.returns-in-Sinc
-returns-in-Sinc c = λ (t : c.reaches.result ≡ true). record { inside = record { least = omega (arith, c.if-span-lt2.false); most = c.requires; reach = subst T (sym (sym c.reaches.ensures ∙ t)) tt }; same = ⊎_elim (λ w s. w.1.left) (λ w s. never (sym w.left ∙ s)) c.if-cold-3.branch }
+returns-in-Sinc c = λ (t : c.reaches.result ≡ true). record {
+  inside = record { least = omega (arith, c.if-span-lt2.false); most = c.requires; reach = subst T (sym (sym c.reaches.ensures ∙ t)) tt };
+  same = elim c.if-cold-3.branch [ then-cold-3+else-b-a w ↦ λ s. w.if-b-a.false | else-cold-3 w ↦ λ s. never (sym w.if-cold-3.false ∙ s) ];
+}

@@ -1,14 +1,12 @@
-use mathlib.Core.Path.{◌≡◌, refl, ap, ◌∙◌}
+use mathlib.Core.Path.{refl, ◌∙◌}
 use lib.Ieee.{nan}
 use Rattle.exact.specs.Single.{f0}
 use Rattle.segments.proofs.Resting.{one_more}
-use Prim.Native.Nat.{◌≤◌, ◌-◌, ◌+◌}
-use native.Mathlib.Numerals.{add-one}
+use Prim.Native.Nat.{◌+◌}
 use native.Mathlib.Nat.{le_antisymm}
 use native.Mathlib.Omega.{arith}
-use lib.ListN.{length}
 use Rattle.interp.proofs.Frames.{get_d_any}
-use Rattle.segments.specs.Plain.{plain_share, added_run}
+use Rattle.segments.specs.Plain.{added_run}
 use Rattle.segments.proofs.plain.add_plain.Goals as goal
 
 pub loop-i-init : goal.loop-i-init
@@ -43,7 +41,7 @@ pub loop-i-smaller : goal.loop-i-smaller
 loop-i-smaller c = omega (arith, c.loop-i-test.true)
 
 pub loop-i-preserved : goal.loop-i-preserved
-loop-i-preserved c = let e = c.args in let q = c.loop-i in (omega (arith, c.loop-i-test.true), c.add_at.auto.0 ∙ q.invariant.1, one_more e.g e.x e.y e.stereo e.a.now e.b.now e.p e.j q.i e.out.now q.out c.add_at.new.0 _ _ _ q.invariant.2 c.add_at.ensures c.share_of.ensures (get_d_any e.a.now (e.p + q.i) nan f0 (omega (arith, c.requires.1, c.loop-i-test.true))) c.second_at-r.ensures)
+loop-i-preserved c = let e = c.args in let q = c.loop-i in (omega (arith, c.loop-i-test.true), c.add_at.auto.out ∙ q.invariant.1, one_more e.g e.x e.y e.stereo e.a.now e.b.now e.p e.j q.i e.out.now q.out c.add_at.new.out _ _ _ q.invariant.2 c.add_at.ensures c.share_of.ensures (get_d_any e.a.now (e.p + q.i) nan f0 (omega (arith, c.requires.1, c.loop-i-test.true))) c.second_at-r.ensures)
 
 pub shape_of-out : goal.shape_of-out
 shape_of-out c = c.loop-i.invariant.1

@@ -1,13 +1,6 @@
-use mathlib.Core.Path.{◌≡◌, refl, ap, ◌∙◌}
-use lib.Ieee.{nan}
-use Rattle.exact.specs.Single.{f0}
-use Rattle.segments.proofs.Resting.{one_more}
-use Prim.Native.Nat.{◌≤◌, ◌-◌, ◌+◌}
-use native.Mathlib.Numerals.{add-one}
-use native.Mathlib.Nat.{le_antisymm}
-use native.Mathlib.Omega.{arith}
+use mathlib.Core.Path.{◌≡◌}
+use Prim.Native.Nat.{◌≤◌, ◌-◌}
 use lib.ListN.{length}
-use Rattle.interp.proofs.Frames.{get_d_any}
 use Rattle.segments.specs.Plain.{plain_share, added_run}
 use Rattle.segments.proofs.plain.add_plain.Given as goal
 

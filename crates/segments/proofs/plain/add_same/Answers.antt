@@ -1,8 +1,6 @@
-use mathlib.Core.Path.{◌≡◌, refl, ◌∙◌}
-use Prim.Native.Nat.{ℕ, ◌≤◌, ◌-◌}
+use mathlib.Core.Path.{refl, ◌∙◌}
 use native.Mathlib.Nat.{le_antisymm}
 use native.Mathlib.Omega.{arith}
-use lib.ListN.{length}
 use Rattle.segments.specs.Plain.{added_run}
 use Rattle.segments.proofs.Resting.{same_more}
 use Rattle.segments.proofs.plain.add_same.Goals as goal
@@ -24,7 +22,7 @@ pub loop-i-smaller : goal.loop-i-smaller
 loop-i-smaller c = omega (arith, c.loop-i-test.true)
 
 pub loop-i-preserved : goal.loop-i-preserved
-loop-i-preserved c = let e = c.args in let q = c.loop-i in (omega (arith, c.loop-i-test.true), c.add_at.auto.0 ∙ q.invariant.1, same_more e.v e.j q.i e.out.now q.out c.add_at.new.0 q.invariant.2 c.add_at.ensures)
+loop-i-preserved c = let e = c.args in let q = c.loop-i in (omega (arith, c.loop-i-test.true), c.add_at.auto.out ∙ q.invariant.1, same_more e.v e.j q.i e.out.now q.out c.add_at.new.out q.invariant.2 c.add_at.ensures)
 
 pub shape_of-out : goal.shape_of-out
 shape_of-out c = c.loop-i.invariant.1

@@ -1,10 +1,7 @@
-use mathlib.Core.Path.{◌≡◌, refl, ◌∙◌}
+use mathlib.Core.Path.{◌≡◌}
 use Prim.Native.Nat.{ℕ, ◌≤◌, ◌-◌}
-use native.Mathlib.Nat.{le_antisymm}
-use native.Mathlib.Omega.{arith}
 use lib.ListN.{length}
 use Rattle.segments.specs.Plain.{added_run}
-use Rattle.segments.proofs.Resting.{same_more}
 use Rattle.segments.proofs.plain.add_same.Given as goal
 
 abbrev pub invariant-loop-i : goal.invariant-loop-i

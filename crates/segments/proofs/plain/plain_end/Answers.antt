@@ -1,7 +1,7 @@
 use mathlib.Core.Path.{refl}
 use native.Mathlib.Omega.{arith}
 use borrow.Author.Tests.{lt-ltb, le-ltb}
-use Rattle.segments.specs.Plain.{plain_end, FadeSmall}
+use Rattle.segments.specs.Plain.{plain_end}
 use borrow.Author.Rules.{rules}
 use Rattle.segments.proofs.plain.plain_end.Goals as goal
 

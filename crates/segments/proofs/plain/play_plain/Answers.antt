@@ -1,4 +1,3 @@
-use borrow.Author.Rules.{rules}
 use Rattle.segments.proofs.plain.play_plain.Goals as goal
 
 pub play_silent-requires : goal.play_silent-requires

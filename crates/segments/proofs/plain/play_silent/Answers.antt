@@ -1,10 +1,8 @@
-use mathlib.Core.Path.{◌≡◌, sym, ◌∙◌}
+use mathlib.Core.Path.{sym, ◌∙◌}
 use Prim.Native.Nat.{◌-◌}
 use native.Mathlib.Omega.{arith}
-use borrow.Author.Tests.{not-false}
 use lib.ListN.{length}
 use Rattle.segments.proofs.Resting.{no_run, ran-silent}
-use borrow.Author.Rules.{rules}
 use Rattle.segments.proofs.plain.play_silent.Goals as goal
 
 pub returns-then-not-is_silent : goal.returns-then-not-is_silent
@@ -18,5 +16,5 @@ returns c = let a = c.args in
       pre.0,
       λ slots s states.
           rw (c.add_same.ensures, c.add_same-2.ensures, c.share_of.ensures, c.share_of-2.ensures)
-          (ran-silent a.c slots s a.h a.j states a.out_l.now a.out_r.now (sym c.is_silent.ensures ∙ not-false _ c.if-not-is_silent.false-raw) (length a.out_l.now - a.j)),
+          (ran-silent a.c slots s a.h a.j states a.out_l.now a.out_r.now (sym c.is_silent.ensures ∙ c.if-not-is_silent.false) (length a.out_l.now - a.j)),
     )

@@ -2,14 +2,12 @@ use mathlib.Core.Path.{◌≡◌, sym, ap, subst, ◌∙◌}
 use mathlib.Core.Bool.{true, false}
 use Prim.Native.Nat.{ℕ, ◌≤◌, ◌+◌, ◌-◌, ◌^◌}
 use native.Mathlib.Omega.{arith}
-use borrow.Author.Tests.{not-false}
 use lib.Dec.{le→leb}
 use lib.Ieee.{in_float}
 use Rattle.player.specs.Bounds.{LoopOk}
 use Rattle.segments.specs.Plain.{plain_end, run_from}
 use Rattle.segments.proofs.Positions.{current-ok}
 use Rattle.segments.proofs.Resting.{no_run, end-small, double-position, ran}
-use borrow.Author.Rules.{rules}
 use Rattle.segments.proofs.plain.play_stored.Goals as goal
 
 -- the frames between j and j + k
@@ -56,7 +54,7 @@ returns c = let a = c.args in
       double-position (m + k) (omega arith),
       λ slots states table.
           rw (c.add_plain.ensures, c.add_plain-2.ensures)
-          (ran a.c slots (record { a = a.a.now; b = a.b.now; table = table }) a.h lp m k (sym c.is_plain.ensures ∙ not-false _ c.if-not-is_plain.false-raw) (c.whole_frame-p.ensures.1 (omega (arith, c.if-p-eq0.false))) c.looping-lp.ensures ok
+          (ran a.c slots (record { a = a.a.now; b = a.b.now; table = table }) a.h lp m k (sym c.is_plain.ensures ∙ c.if-not-is_plain.false) (c.whole_frame-p.ensures.1 (omega (arith, c.if-p-eq0.false))) c.looping-lp.ensures ok
           c.plain_end-end.ensures.1 pre.0.last z q.1 (λ (t : a.c.stereo ≡ true). subst (λ (n : ℕ). m + k ≤ n) (c.second_len-second.ensures t) q.2) a.j states a.out_l.now a.out_r.now
           ∙ ap (λ (n : ℕ). run_from a.c slots (record { a = a.a.now; b = a.b.now; table = table }) a.j n (record { hot = a.h; states = states; left = a.out_l.now; right = a.out_r.now; done = false })) (sym (back a.j k))),
     )

@@ -1,5 +1,4 @@
 use Rattle.segments.specs.Plain.{is_resting}
-use borrow.Author.Rules.{rules}
 use Rattle.segments.proofs.plain.rests.Goals as goal
 
 pub returns-then-e : goal.returns-then-e

@@ -2,7 +2,6 @@ use lib.Ieee.{nan}
 use Rattle.exact.specs.Single.{f0}
 use native.Mathlib.Omega.{arith}
 use Rattle.interp.proofs.Frames.{get_d_any}
-use borrow.Author.Rules.{rules}
 use Rattle.segments.proofs.plain.second_at.Goals as goal
 
 pub offset_bounds-b-q : goal.offset_bounds-b-q

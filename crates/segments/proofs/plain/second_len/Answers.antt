@@ -1,6 +1,5 @@
 use mathlib.Core.Path.{sym, refl, ◌∙◌}
 use mathlib.Core.Bool.{true≢false}
-use borrow.Author.Rules.{rules}
 use Rattle.segments.proofs.plain.second_len.Goals as goal
 
 pub returns-then-stereo : goal.returns-then-stereo

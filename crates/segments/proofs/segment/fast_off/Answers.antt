@@ -1,5 +1,4 @@
 use Rattle.segments.specs.Segment.{fast_off}
-use borrow.Author.Rules.{rules}
 use Rattle.segments.proofs.segment.fast_off.Goals as goal
 
 pub returns : goal.returns

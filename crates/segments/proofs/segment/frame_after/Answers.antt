@@ -1,5 +1,4 @@
 use Rattle.segments.specs.Segment.{frame_after}
-use borrow.Author.Rules.{rules}
 use Rattle.segments.proofs.segment.frame_after.Goals as goal
 
 pub returns-then-ends_now : goal.returns-then-ends_now

@@ -1,35 +1,16 @@
-use mathlib.Core.Path.{◌≡◌, refl, ap, sym, ◌∙◌}
-use mathlib.Core.Bool.{false}
-use mathlib.Core.Logic.{⊎_elim}
-use Prim.Native.Nat.{◌≤◌, ◌-◌, ◌+◌}
+use mathlib.Core.Path.{refl, ap, sym, ◌∙◌}
+use Prim.Native.Nat.{◌≤◌}
 use native.Mathlib.Nat.{le_antisymm}
 use native.Mathlib.Numerals.{add-one}
 use native.Mathlib.Omega.{arith}
 use lib.ListN.{length}
-use Rattle.filter.specs.Filter.{Paired, pair_ticked, chained}
-use Rattle.interp.specs.Position.{Position}
-use Rattle.segments.specs.Segment.{Run, run_for, after_run}
-use Rattle.segments.specs.Ahead.{Kept}
+use Rattle.filter.specs.Filter.{pair_ticked, chained}
+use Rattle.segments.specs.Segment.{run_for, after_run}
 use Rattle.segments.proofs.Kept.{same_kept, nothing-kept}
-use Rattle.segments.specs.Source.{at_pos}
 use Rattle.segments.proofs.Resting.{carried, forward}
 use Rattle.segments.proofs.Runs.{more, ended}
 use Rattle.segments.proofs.segment.frames.Goals as goal
-
--- what is kept while a chunk sounds
-kept : (c : goal.Joined-suited) → let e = c.args in Kept e.cold.span e.cold.stereo (record { a = e.a.now; b = e.b.now; table = e.table.now }) c.if-suited.qs c.if-suited.ls c.if-suited.rs
-kept c =
-    let was = c.loop-j.invariant.5 in
-    ⊎_elim (λ w. same_kept _ _ _ _ _ _ _ _ _ w.5 w.6 w.7 w.4.ensures) (λ w. same_kept _ _ _ _ _ _ _ _ _ w.1 w.2 w.3 was)
-    c.if-suited.branch
-
--- the run up to where plain frames have brought it
-so_far : (c : goal.Joined-suited) → let e = c.args in let l = c.loop-j in let r = c.play_plain-rested in ◌≡◌ {A = Run} (record { hot = at_pos r.result.pos l.h; states = l.states; left = r.new.1.1.1.1.0; right = r.new.1.1.1.1.1.0; done = false }) (run_for e.cold e.slots (record { a = e.a.now; b = e.b.now; table = e.table.now }) r.result.next (record { hot = e.hot; states = e.states.now; left = e.out_l.now; right = e.out_r.now; done = false }))
-so_far c =
-    let e = c.args in
-    let l = c.loop-j in
-    let r = c.play_plain-rested in
-    carried e.cold e.slots (record { a = e.a.now; b = e.b.now; table = e.table.now }) l.j r.result.next _ _ _ r.ensures.0 l.invariant.4 (r.ensures.3 e.slots l.states e.table.now)
+use Rattle.segments.proofs.segment.frames.Goals.{then-suited, else-suited}
 
 pub suits-suited-requires : goal.suits-suited-requires
 suits-suited-requires c = c.requires.0.half
@@ -51,16 +32,21 @@ pub chunk_end-stop-requires : goal.chunk_end-stop-requires
 chunk_end-stop-requires c = omega (arith, c.play_plain-rested.ensures.1, c.loop-j.invariant.1)
 
 pub loop-j-2-init : goal.loop-j-2-init
-loop-j-2-init c = (c.chunk_end-stop.ensures.3, omega arith, c.play_plain-rested.auto.1.1.1.1.0 ∙ c.loop-j.invariant.1, c.play_plain-rested.auto.1.1.1.1.1.0 ∙ c.loop-j.invariant.2, c.play_plain-rested.ensures.2, λ x e. e)
+loop-j-2-init c = (c.chunk_end-stop.ensures.3, omega arith, c.play_plain-rested.auto.out_l ∙ c.loop-j.invariant.1, c.play_plain-rested.auto.out_r ∙ c.loop-j.invariant.2, c.play_plain-rested.ensures.2, λ x e. e)
 
 pub loop-j-smaller : goal.loop-j-smaller
 loop-j-smaller c = let n = length c.args.out_l.now in let r = c.play_plain-rested in let l : r.result.next ≤ n = omega (arith, r.ensures.1, c.loop-j.invariant.1) in let f = forward c.loop-j.j r.result.next n c.chunk_end-stop.result c.loop-j-test.true r.ensures.0 c.chunk_end-stop.ensures.2 c.chunk_end-stop.ensures.3 l in omega (arith, c.loop-j-2-test.false, c.loop-j-2.invariant.0, f, c.loop-j-test.true)
 
 pub loop-j-preserved : goal.loop-j-preserved
-loop-j-preserved c = (omega (arith, c.loop-j-2.invariant.0, c.chunk_end-stop.ensures.0), c.loop-j-2.invariant.2, c.loop-j-2.invariant.3, c.loop-j-2.invariant.4, c.loop-j-2.invariant.5 _ (so_far c.before.before.before), kept c.before.before.before)
+loop-j-preserved c =
+    let e = c.args in
+    let l = c.loop-j in
+    let r = c.play_plain-rested in
+    let so_far = carried e.cold e.slots (record { a = e.a.now; b = e.b.now; table = e.table.now }) l.j r.result.next _ _ _ r.ensures.0 l.invariant.4 (r.ensures.3 e.slots l.states e.table.now) in
+    (omega (arith, c.loop-j-2.invariant.0, c.chunk_end-stop.ensures.0), c.loop-j-2.invariant.2, c.loop-j-2.invariant.3, c.loop-j-2.invariant.4, c.loop-j-2.invariant.5 _ so_far, (elim c.if-suited.branch [ then-suited w ↦ same_kept _ _ _ _ _ _ _ _ _ w.qs-is w.ls-is w.rs-is w.ahead.ensures | else-suited w ↦ same_kept _ _ _ _ _ _ _ _ _ w.qs-is w.ls-is w.rs-is c.loop-j.invariant.5 ]))
 
 pub next_frame-f-requires : goal.next_frame-f-requires
-next_frame-f-requires c = (c.requires.0, c.loop-j-2.invariant.4, c.requires.3, omega (arith, c.loop-j-2-test.true, c.loop-j-2.invariant.1, c.chunk_end-stop.ensures.1), kept c.before.before.before.before.before.before)
+next_frame-f-requires c = (c.requires.0, c.loop-j-2.invariant.4, c.requires.3, omega (arith, c.loop-j-2-test.true, c.loop-j-2.invariant.1, c.chunk_end-stop.ensures.1), (elim c.if-suited.branch [ then-suited w ↦ same_kept _ _ _ _ _ _ _ _ _ w.qs-is w.ls-is w.rs-is w.ahead.ensures | else-suited w ↦ same_kept _ _ _ _ _ _ _ _ _ w.qs-is w.ls-is w.rs-is c.loop-j.invariant.5 ]))
 
 pub shape_of-out_l-then-f : goal.shape_of-out_l-then-f
 shape_of-out_l-then-f c = c.loop-j-2.invariant.2
@@ -69,7 +55,12 @@ pub shape_of-out_r-then-f : goal.shape_of-out_r-then-f
 shape_of-out_r-then-f c = c.loop-j-2.invariant.3 ∙ sym c.requires.4
 
 pub returns-then-f : goal.returns-then-f
-returns-then-f c = (ended _ _ _ _ _ c.next_frame-f.result c.loop-j-2.j refl (c.loop-j-2.invariant.5 _ (so_far c.before.before.before.before.before.before.before.before.before)) c.next_frame-f.ensures.0 _ (omega (arith, c.loop-j-2-test.true, c.chunk_end-stop.ensures.0)) c.if-f.true, c.next_frame-f.ensures.1)
+returns-then-f c =
+    let e = c.args in
+    let l = c.loop-j in
+    let r = c.play_plain-rested in
+    let so_far = carried e.cold e.slots (record { a = e.a.now; b = e.b.now; table = e.table.now }) l.j r.result.next _ _ _ r.ensures.0 l.invariant.4 (r.ensures.3 e.slots l.states e.table.now) in
+    (ended _ _ _ _ _ c.next_frame-f.result c.loop-j-2.j refl (c.loop-j-2.invariant.5 _ so_far) c.next_frame-f.ensures.0 _ (omega (arith, c.loop-j-2-test.true, c.chunk_end-stop.ensures.0)) c.if-f.true, c.next_frame-f.ensures.1)
 
 pub overflow_cast-count : goal.overflow_cast-count
 overflow_cast-count c = omega (arith, c.requires.0.filters)
@@ -116,7 +107,7 @@ pub loop-j-2-preserved : goal.loop-j-2-preserved
 loop-j-2-preserved c = let head = c.loop-j-2 in
     let next = c.next_frame-f in
     let filtered = c.loop-k in
-    (omega (arith, c.loop-j-2-test.true), omega (arith, head.invariant.1), c.add_at.auto.0 ∙ head.invariant.2, c.add_at-in-loop-j-2.auto.0 ∙ head.invariant.3, next.ensures.1, λ x e. rw (c.add_at.ensures, c.add_at-in-loop-j-2.ensures, c.share_of.ensures, c.share_of-in-loop-j-2.ensures) (more _ _ _ x _ next.result head.j refl (head.invariant.5 x e) next.ensures.0 (record { l = filtered.v.l; r = filtered.v.r; states = filtered.states }) c.if-f.false (rw (le_antisymm filtered.invariant.0 c.loop-k-test.false) at filtered.invariant.1)))
+    (omega (arith, c.loop-j-2-test.true), omega (arith, head.invariant.1), c.add_at.auto.out ∙ head.invariant.2, c.add_at-in-loop-j-2.auto.out ∙ head.invariant.3, next.ensures.1, λ x e. rw (c.add_at.ensures, c.add_at-in-loop-j-2.ensures, c.share_of.ensures, c.share_of-in-loop-j-2.ensures) (more _ _ _ x _ next.result head.j refl (head.invariant.5 x e) next.ensures.0 (record { l = filtered.v.l; r = filtered.v.r; states = filtered.states }) c.if-f.false (rw (le_antisymm filtered.invariant.0 c.loop-k-test.false) at filtered.invariant.1)))
 
 pub shape_of-out_l : goal.shape_of-out_l
 shape_of-out_l c = c.loop-j.invariant.1

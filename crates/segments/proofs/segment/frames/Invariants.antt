@@ -1,19 +1,11 @@
-use mathlib.Core.Path.{◌≡◌, refl, ap, sym, ◌∙◌}
+use mathlib.Core.Path.{◌≡◌}
 use mathlib.Core.Bool.{false}
-use mathlib.Core.Logic.{⊎_elim}
 use Prim.Native.Nat.{◌≤◌, ◌-◌, ◌+◌}
-use native.Mathlib.Nat.{le_antisymm}
-use native.Mathlib.Numerals.{add-one}
-use native.Mathlib.Omega.{arith}
 use lib.ListN.{length}
-use Rattle.filter.specs.Filter.{Paired, pair_ticked, chained}
+use Rattle.filter.specs.Filter.{Paired, chained}
 use Rattle.interp.specs.Position.{Position}
-use Rattle.segments.specs.Segment.{Run, run_for, after_run}
+use Rattle.segments.specs.Segment.{Run, run_for}
 use Rattle.segments.specs.Ahead.{Kept}
-use Rattle.segments.proofs.Kept.{same_kept, nothing-kept}
-use Rattle.segments.specs.Source.{at_pos}
-use Rattle.segments.proofs.Resting.{carried, forward}
-use Rattle.segments.proofs.Runs.{more, ended}
 use Rattle.segments.proofs.segment.frames.Given as goal
 
 abbrev pub invariant-loop-k : goal.invariant-loop-k

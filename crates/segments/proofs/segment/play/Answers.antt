@@ -1,4 +1,3 @@
-use borrow.Author.Rules.{rules}
 use Rattle.segments.specs.Segment.{played_by}
 use Rattle.segments.proofs.Runs.{of-run}
 use Rattle.segments.proofs.segment.play.Goals as goal

@@ -1,7 +1,6 @@
 use mathlib.Core.Path.{sym, ap}
 use Rattle.segments.specs.Source.{at_end}
 use Rattle.player.specs.declared.MaybeLoop.{MaybeLoop}
-use borrow.Author.Rules.{rules}
 use Rattle.segments.proofs.source.at_end.Goals as goal
 
 pub returns-in-Absent : goal.returns-in-Absent

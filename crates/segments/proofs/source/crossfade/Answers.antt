@@ -2,7 +2,6 @@ use mathlib.Core.Path.{subst}
 use Rattle.segments.specs.Source.{crossfaded}
 use Rattle.player.specs.Bounds.{LoopOk}
 use Rattle.segments.proofs.Positions.{fade-start}
-use borrow.Author.Rules.{rules}
 use Rattle.segments.proofs.source.crossfade.Goals as goal
 
 pub fade-requires : goal.fade-requires

@@ -1,5 +1,4 @@
 use Rattle.segments.specs.Source.{faded}
-use borrow.Author.Rules.{rules}
 use Rattle.segments.proofs.source.fade.Goals as goal
 
 pub returns-then-q : goal.returns-then-q

@@ -1,5 +1,4 @@
 use Rattle.segments.specs.Source.{fade_of}
-use borrow.Author.Rules.{rules}
 use Rattle.segments.proofs.source.fade_of.Goals as goal
 
 pub returns : goal.returns

@@ -1,6 +1,5 @@
 use Rattle.interp.specs.Read.{pair_at}
 use Rattle.segments.specs.Source.{frame_of}
-use borrow.Author.Rules.{rules}
 use Rattle.segments.proofs.source.incoming.Goals as goal
 
 pub returns-then-stored : goal.returns-then-stored

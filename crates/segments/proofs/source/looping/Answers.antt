@@ -1,5 +1,4 @@
 use Rattle.segments.specs.Source.{current_loop}
-use borrow.Author.Rules.{rules}
 use Rattle.segments.proofs.source.looping.Goals as goal
 
 pub returns-then-released : goal.returns-then-released

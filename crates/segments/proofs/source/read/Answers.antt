@@ -3,7 +3,6 @@ use mathlib.Core.Path.{sym, subst}
 use Rattle.segments.specs.Source.{read_frame, heard_in}
 use Rattle.player.specs.Bounds.{LoopOk}
 use Rattle.segments.proofs.Positions.{current-ok, next-position}
-use borrow.Author.Rules.{rules}
 use Rattle.segments.proofs.source.read.Goals as goal
 
 pub returns-then-cold : goal.returns-then-cold

@@ -1,5 +1,4 @@
 use Rattle.segments.specs.Source.{s_curve}
-use borrow.Author.Rules.{rules}
 use Rattle.segments.proofs.source.s_curve.Goals as goal
 
 pub returns : goal.returns

@@ -1,4 +1,3 @@
-use borrow.Author.Rules.{rules}
 use Rattle.segments.proofs.source.stored_frame.Goals as goal
 
 pub returns-then-stereo : goal.returns-then-stereo

@@ -1,5 +1,4 @@
 use Rattle.segments.specs.Source.{is_unity}
-use borrow.Author.Rules.{rules}
 use Rattle.segments.proofs.source.unity.Goals as goal
 
 pub returns-then-step : goal.returns-then-step
