@@ -1,6 +1,7 @@
 // What a start does to the session and to a voice, and a note's release regions: the Rust's `start_region` and `dispatch_release`.
 // `words` and `samples` are the bound program's, of `n` regions.
 #![tactic(auto)]
+
 pub mod start;
 
 use note::MaybeNote;

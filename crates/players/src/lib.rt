@@ -1,5 +1,6 @@
 // A voice's players: 32 places by value, of which the first `count` are in use, in the order of their starts.
 #![tactic(auto)]
+
 pub mod gate;
 pub mod mix;
 

@@ -32,11 +32,11 @@ overflow_add-j c = record { fits = omega (arith, c.loop-i.invariant.3.front.behi
 
 pub loop-i-preserved : goal.loop-i-preserved
 loop-i-preserved c = let told = c.is_over.ensures in (
-      omega arith,
-      c.loop-i.invariant.1,
-      c.loop-i.invariant.2,
-      elim c.if-j-at.branch [ then-j-at w ↦ reaping-on _ _ _ c.loop-i.i _ _ _ c.loop-i.invariant.3 (omega (arith, c.loop-i.invariant.2)) _ told c.if-is_over.false _ (ap (λ (x : Players). x.players) w.t-is) | else-j-at w ↦ reaping-stay _ _ _ c.loop-i.i _ _ _ c.loop-i.invariant.3 (omega (arith, c.loop-i.invariant.2)) _ told c.if-is_over.false w.if-j-at.false _ (ap (λ (x : Players). x.players) w.t-is) ],
-    )
+  omega arith,
+  c.loop-i.invariant.1,
+  c.loop-i.invariant.2,
+  elim c.if-j-at.branch [ then-j-at w ↦ reaping-on _ _ _ c.loop-i.i _ _ _ c.loop-i.invariant.3 (omega (arith, c.loop-i.invariant.2)) _ told c.if-is_over.false _ (ap (λ (x : Players). x.players) w.t-is) | else-j-at w ↦ reaping-stay _ _ _ c.loop-i.i _ _ _ c.loop-i.invariant.3 (omega (arith, c.loop-i.invariant.2)) _ told c.if-is_over.false w.if-j-at.false _ (ap (λ (x : Players). x.players) w.t-is) ],
+)
 
 pub returns : goal.returns
 returns c = let e = reaped-done c.args.ps _ _ c.loop-i.i _ _ c.requires c.loop-i.invariant.3 c.loop-i.invariant.0 c.loop-i-test.false in

@@ -15,10 +15,10 @@ loop-i-init c = (omega arith, c.requires.few, refl)
 
 pub loop-i-preserved : goal.loop-i-preserved
 loop-i-preserved c = let told = c.set_pitch-cold.ensures in (
-      omega arith,
-      c.loop-i.invariant.1,
-      elim c.if-cold-p.branch [ then-cold-p w ↦ w.t-is ∙ pitch-moves _ _ _ c.loop-i.t c.loop-i.i _ c.loop-i.invariant.2 _ told _ w.with_cold.ensures | else-cold-p w ↦ w.t-is ∙ pitch-stays _ _ _ c.loop-i.t c.loop-i.i _ c.loop-i.invariant.2 _ told w.if-cold-p.false ],
-    )
+  omega arith,
+  c.loop-i.invariant.1,
+  elim c.if-cold-p.branch [ then-cold-p w ↦ w.t-is ∙ pitch-moves _ _ _ c.loop-i.t c.loop-i.i _ c.loop-i.invariant.2 _ told _ w.with_cold.ensures | else-cold-p w ↦ w.t-is ∙ pitch-stays _ _ _ c.loop-i.t c.loop-i.i _ c.loop-i.invariant.2 _ told w.if-cold-p.false ],
+)
 
 pub returns : goal.returns
 unfolding retuned_all

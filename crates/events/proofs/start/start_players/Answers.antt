@@ -27,7 +27,7 @@ loop-i-preserved c = let a = c.args in
 
 pub returns : goal.returns
 returns c = let a = c.args in (
-      λ s. voices-all (record { words = a.words.now; samples = a.samples.now }) a.ns a.c _ (record { session = s; voice = a.v }) _
-          (fold_done _ _ a.chosen.regions c.loop-i.i _ c.loop-i.invariant.3 _ _ c.loop-i.invariant.0 c.loop-i-test.false c.used-n.ensures),
-      c.loop-i.invariant.4,
-    )
+  λ s. voices-all (record { words = a.words.now; samples = a.samples.now }) a.ns a.c _ (record { session = s; voice = a.v }) _
+      (fold_done _ _ a.chosen.regions c.loop-i.i _ c.loop-i.invariant.3 _ _ c.loop-i.invariant.0 c.loop-i-test.false c.used-n.ensures),
+  c.loop-i.invariant.4,
+)

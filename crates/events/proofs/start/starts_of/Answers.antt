@@ -7,12 +7,12 @@ use Rattle.events.proofs.start.starts_of.Goals as goal
 
 pub loop-i-init : goal.loop-i-init
 loop-i-init c = (
-      omega arith,
-      rw c.used-n.ensures (used-below 256 c.args.chosen.count),
-      c.well_formed.1.0.1.1.0.1.0.1,
-      refl,
-      refl,
-    )
+  omega arith,
+  rw c.used-n.ensures (used-below 256 c.args.chosen.count),
+  c.well_formed.1.0.1.1.0.1.0.1,
+  refl,
+  refl,
+)
 
 pub loop-i-preserved : goal.loop-i-preserved
 loop-i-preserved c = let a = c.args in

@@ -45,7 +45,7 @@ loop-k-preserved c = let b = c.loop-k in
       y.auto.right ∙ b.invariant.1 ∙ sym y.auto.left,
       y.auto.left ∙ b.invariant.2,
       going_on _ _ _ _ _ c.requires.0 _ _ _ _ _ _ b.invariant.3 inside _ y.result _ _ y.ensures.0 _ _ y.ensures.1 c.note_end-ended.ensures
-          (elim c.if-is_over.branch [ then-is_over w ↦ w.t-is ∙ over-hit b.over o.result y.result.player o.ensures w.if-is_over.true | else-is_over w ↦ w.t-is ∙ over-miss b.over o.result y.result.player o.ensures w.if-is_over.false ]),
+          (elim c.if-is_over.branch [ then-is_over w ↦ w.over-is ∙ over-hit b.over o.result y.result.player o.ensures w.if-is_over.true | else-is_over w ↦ w.over-is ∙ over-miss b.over o.result y.result.player o.ensures w.if-is_over.false ]),
     )
 
 pub shape_of-left : goal.shape_of-left
