@@ -21,7 +21,7 @@ loop-i-preserved c = let a = c.args in
       c.loop-i.invariant.1,
       c.loop-i.invariant.2,
       fold_step _ _ a.chosen.regions c.loop-i.i (carried c.loop-i.ps c.loop-i.next c.loop-i.dropped a.v) c.loop-i.invariant.3 0 _ (omega (arith, c.loop-i.invariant.2))
-          (elim c.if-at-lt32.branch [ then-at-lt32 w ↦ voice-joins k a.ns a.c a.v c.loop-i.ps c.loop-i.next c.loop-i.dropped _ _ _ _ (omega (arith, w.if-at-lt32.true)) _ w.region_at-region.ensures _ w.player_of-p.ensures.0 w.ps-is (w.EQ1 ∙ w.wrapping_add_u32-next.ensures) w.EQ2 | else-at-lt32 w ↦ voice-drops k a.ns a.c a.v c.loop-i.ps c.loop-i.next c.loop-i.dropped _ _ _ _ (omega (arith, w.if-at-lt32.false)) w.ps-is w.EQ1 (w.EQ2 ∙ w.drop_one-dropped.ensures) ]),
+          (elim c.if-at-lt32.branch [ then-at-lt32 w ↦ voice-joins k a.ns a.c a.v c.loop-i.ps c.loop-i.next c.loop-i.dropped _ _ _ _ (omega (arith, w.if-at-lt32.true)) _ w.region_at-region.ensures _ w.player_of-p.ensures.0 w.ps-is (w.next-is ∙ w.wrapping_add_u32-next.ensures.value) w.dropped-is | else-at-lt32 w ↦ voice-drops k a.ns a.c a.v c.loop-i.ps c.loop-i.next c.loop-i.dropped _ _ _ _ (omega (arith, w.if-at-lt32.false)) w.ps-is w.next-is (w.dropped-is ∙ w.drop_one-dropped.ensures) ]),
       elim c.if-at-lt32.branch [ then-at-lt32 w ↦ subst PlayersOk (sym w.ps-is) (seated-ok c.loop-i.ps c.loop-i.invariant.4 _ (omega (arith, w.if-at-lt32.true)) w.player_of-p.ensures.1) | else-at-lt32 w ↦ subst PlayersOk (sym w.ps-is) c.loop-i.invariant.4 ],
     )
 
