@@ -1,6 +1,7 @@
 // A block of a voice: the Rust's `process`, once the tests of the call have passed. Off times are collected, pitch is set, then events by
 // frame with the frames between them, and the amp input last.
 #![tactic(auto)]
+
 pub mod calm;
 pub mod frames;
 pub mod inputs;

@@ -13,12 +13,12 @@ slice_bounds-entries-end c = sym (length-take-le 8194 c.args.table.now c.require
 
 pub sound_all-m-requires : goal.sound_all-m-requires
 sound_all-m-requires c = let k = c.clear_both.auto in
-    (c.requires.0, length-take-le 8194 c.args.table.now c.requires.1, k.1.0 ∙ c.requires.2 ∙ sym k.0)
+    (c.requires.0, length-take-le 8194 c.args.table.now c.requires.1, k.right ∙ c.requires.2 ∙ sym k.left)
 
 pub amplify_both-requires : goal.amplify_both-requires
 amplify_both-requires c = let k = c.clear_both.auto in
     let m = c.sound_all-m in
-    (covers-as c.args.on c.args.amp.now _ (length c.args.left.now) (m.auto.left ∙ k.0) c.requires.3, covers-as c.args.on c.args.amp.now _ (length c.args.left.now) (m.auto.right ∙ k.1.0 ∙ c.requires.2) c.requires.3)
+    (covers-as c.args.on c.args.amp.now _ (length c.args.left.now) (m.auto.left ∙ k.left) c.requires.3, covers-as c.args.on c.args.amp.now _ (length c.args.left.now) (m.auto.right ∙ k.right ∙ c.requires.2) c.requires.3)
 
 pub returns : goal.returns
 returns c = let a = c.args in
