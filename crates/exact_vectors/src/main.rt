@@ -2,6 +2,7 @@
 // The file `stdout` has the machine's own answers: answers.rs writes it with Rust's operators on the same tables, and
 // never calls the port.
 #![tactic(auto)]
+
 mod tables;
 
 fn main() {

@@ -1,6 +1,7 @@
 // Writes the seven float functions at the edges that 01 names: the function, the argument's bits and the result's.
 // answers.py has worked out the results to 60 digits, without the port.
 #![tactic(auto)]
+
 mod tables;
 
 fn main() {

@@ -1,6 +1,7 @@
 // The seven float functions under plain names, for programs in other languages: the Rust linked with these calls the port's
 // own, so that every bit of the two can be compared.
 #![tactic(auto)]
+
 ghost use Rattle.std.specs.Prelude.{◌≡◌};
 ghost use Rattle.elementary.specs.Functions.{cos_of, exp2_of, exp_of, log2_of, pow10_of, sin_of, sinh_of};
 ghost use Rattle.elementary.specs.Promise.{PowerOf};
