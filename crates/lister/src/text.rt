@@ -1,8 +1,8 @@
 // The text that is written, collected in a buffer: each function puts something at `at` and answers the place after it.
+use lines::field::word_of;
+
 // Standard output.
 const STDOUT_FILENO: i32 = 1;
-
-use lines::field::word_of;
 
 // Room for any line that is printed.
 const LINE: usize = 2048;

@@ -1,10 +1,11 @@
 // Binds programs at the edge of each limit and one past it, and prints what binding says: 01's number, 0 where it binds, and the region or
 // sample that goes with it, 0 where none does.
 #![tactic(auto)]
-// Standard output.
-const STDOUT_FILENO: i32 = 1;
 
 use program::bind::{Bound, bind};
+
+// Standard output.
+const STDOUT_FILENO: i32 = 1;
 
 // One row: up to three words set beforehand, then the word under test, the last value that binds and the first that does not.
 const ROWS: u32 = 37;

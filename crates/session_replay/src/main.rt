@@ -12,12 +12,13 @@
 //
 // `-` is none; the group -1 is written as its 32 bits; `trigger` counts as the Rust's enum, attack first.
 #![tactic(auto)]
+
 ghost use Rattle.std.specs.Prelude.{◌≤◌, ◌<◌, ◌+◌, length};
+
+use session::{Limit, OffAt, OffBy, PlayerRecord, Session, Slots, Start, Window};
 
 // Standard output.
 const STDOUT_FILENO: i32 = 1;
-
-use session::{Limit, OffAt, OffBy, PlayerRecord, Session, Slots, Start, Window};
 
 const NONE: u64 = 0xFFFF_FFFF_FFFF_FFFF;
 
