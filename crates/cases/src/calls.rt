@@ -1,12 +1,12 @@
 // The public calls on a state: what each answers, and whether a call that is turned back leaves everything as it was.
 use super::same::{same_session, same_voice};
 use events::SampleVoice;
-// Standard output.
-const STDOUT_FILENO: i32 = 1;
-
 use program::bind::BoundProgram;
 use session::Session;
 use voice::{Answer, close, is_finished, make, reset};
+
+// Standard output.
+const STDOUT_FILENO: i32 = 1;
 
 // What a call left: done, or turned back with everything as it was or not.
 pub const DONE: u32 = 0;

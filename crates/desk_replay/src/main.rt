@@ -2,10 +2,10 @@
 // can be held to what the Rust printed (docs/COMPARISON.md).
 #![tactic(auto)]
 use desk_script::perform::perform;
+use lister::feed::{LAST, parted_feed};
+
 // Standard output.
 const STDOUT_FILENO: i32 = 1;
-
-use lister::feed::{LAST, parted_feed};
 
 fn main() {
     let mut buf = io::large_buffer();

@@ -1,0 +1,12 @@
+use borrow.Author.Rules.{rules}
+use native.Mathlib.Omega.{arith}
+use lib.ListN.{length, length-set}
+use mathlib.Core.Path.{◌≡◌, ◌∙◌}
+use Prim.Native.Nat.{◌-◌}
+use Rattle.block_script.proofs.play.play.Given as goal
+
+abbrev pub invariant-loop-line : goal.invariant-loop-line
+invariant-loop-line l = (length l.buf ≡ length l.initial.buf) × (length l.inputs ≡ length l.initial.inputs) × (65536 ≡ length l.out) × (16 ≡ length l.ids) × (16 ≡ length l.voices)
+
+abbrev pub decreases-loop-line : goal.decreases-loop-line
+decreases-loop-line l = 0x8000_0000_0000_0000 - l.line
