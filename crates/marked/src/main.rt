@@ -1,6 +1,7 @@
 // Writes 01's table "Marked for proof" as the compiled functions have it at 44,100 Hz, singles by their bits.
 // That every row holds, at every rate above 0, is proved: specs/Marked has the table, proofs/Facts the fact.
 #![tactic(auto)]
+
 ghost use Rattle.std.specs.Prelude.{◌≡◌};
 ghost use Rattle.marked.specs.Marked.{first_step};
 

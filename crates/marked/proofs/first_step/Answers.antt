@@ -1,5 +1,4 @@
 use Rattle.envelope.specs.Envelope.{env_next}
-use borrow.Author.Rules.{rules}
 use lib.Ieee
 use mathlib.Core.Path.{◌∙◌, ap}
 use Rattle.marked.proofs.first_step.Goals as goal
