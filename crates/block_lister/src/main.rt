@@ -1,5 +1,6 @@
 // The block lister: whole blocks as bits, over standard input and output.
 #![tactic(auto)]
+
 use block_script::perform::perform;
 use lister::feed::fresh_feed;
 

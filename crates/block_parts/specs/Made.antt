@@ -1,5 +1,5 @@
 -- How much of a program there may be. Definitions only.
-use Rattle.std.specs.Prelude.{ℕ, ◌≤◌}
+use Rattle.std.specs.Prelude.{◌≤◌}
 use Rattle.block_parts.specs.declared.build.Made.{Made}
 
 -- no more than there is room for: 256 regions and samples and one that is too many, and 65,536 numbers

@@ -1,5 +1,5 @@
 // Every line up to the first voice.
-ghost use Rattle.std.specs.Prelude.{◌≡◌, ◌+◌, ◌<◌, ◌≤◌, length};
+ghost use Rattle.std.specs.Prelude.{◌≡◌, ◌+◌, ◌<◌, length};
 ghost use Rattle.block_parts.specs.Made.{MadeOk};
 
 use super::build::{Made, made_after, nothing_made};

@@ -1,6 +1,7 @@
 // Many block scripts in one input, parted by lines `=`, each performed from a fresh session. What they print is parted likewise, so that it
 // can be held to what the Rust printed (docs/COMPARISON.md).
 #![tactic(auto)]
+
 use block_script::perform::perform;
 use lister::feed::{LAST, parted_feed};
 

@@ -3,14 +3,13 @@ use Prim.Native.Nat.{ℕ, zero, suc, ◌+◌, ◌-◌, ◌<◌, ◌≤◌}
 use mathlib.Core.Path.{◌≡◌, refl, sym, ap, ◌∙◌}
 use mathlib.Core.Bool.{Bool, true, false, not, ◌&&◌, ◌||◌, true≢false}
 use mathlib.Core.List.{List, [], ◌∷◌, ◌++◌}
-use mathlib.Core.Logic.{⊎_elim}
 use native.Mathlib.Omega.{arith}
 use native.Mathlib.Numerals.{add-one}
 use native.Mathlib.Nat.{le_antisymm}
 use lib.ListN.{length, take, drop, get_or, set, replicate, length-set, length-append, take-append-drop}
 use lib.Seq.{take-suc, get_or-take, length-take-le, get_or-set_same, get_or-set_other, take-take}
 use lib.Dec.{eqb, ltb, leb}
-use borrow.Author.Tests.{eqb-true, eqb-false, eq-eqb, ne_eqb, le-ltb, lt-ltb, not-true}
+use borrow.Author.Tests.{eqb-true, eqb-false, eq-eqb, le-ltb, lt-ltb, not-true}
 use Rattle.program.specs.Valid.{every}
 use Rattle.program.proofs.Checks.{after}
 use Rattle.session.specs.Lists.{pick, any, keep, elem, used_of}

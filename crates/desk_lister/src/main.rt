@@ -1,5 +1,6 @@
 // The desk lister: 01's added program, over standard input and output.
 #![tactic(auto)]
+
 use desk_script::perform::perform;
 use lister::feed::fresh_feed;
 

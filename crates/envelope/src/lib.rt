@@ -1,7 +1,7 @@
 // The amplitude envelope of a sounding region (sfizz's ADSR with delay, hold and start level), stepped once a frame.
 #![tactic(auto)]
 
-ghost use Rattle.std.specs.Prelude.{◌≡◌, ℤ};
+ghost use Rattle.std.specs.Prelude.{◌≡◌};
 ghost use Rattle.envelope.specs.Envelope.{env_at, fadeout_step, done_step, is_released, is_done, is_delaying, delay_left, released, lin_rate, exp_rate, seconds_to_samples, delay_sum, runs_freely, release_timed, started, release_step, sustain_step, decay_step, hold_step, attack_stage_step, delay_step, env_next};
 
 use elementary::power::exp;

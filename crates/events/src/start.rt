@@ -7,7 +7,7 @@ ghost use Rattle.player.specs.Bounds.{PlayerOk};
 ghost use Rattle.players.specs.Seats.{PlayersOk};
 ghost use Rattle.session.specs.declared.Session.{Session};
 ghost use Rattle.note.specs.Choice.{chosen_list};
-ghost use Rattle.events.specs.Voice.{Kit, Bindable};
+ghost use Rattle.events.specs.Voice.{Bindable};
 ghost use Rattle.events.specs.Start.{off_by_in, limit_in, start_of, starts_of, curve_for, player_from, one_more_dropped, started_all, held_for, releases_fired, dispatched_release};
 
 use super::{Both, Cause, SampleVoice};

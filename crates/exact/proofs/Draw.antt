@@ -1,5 +1,5 @@
 -- A whole number of at most 24 digits over 2 ^ 24, as a single. Assumes nothing.
-use Rattle.std.proofs.Common.{◌≡◌, ℕ, ◌*◌, ◌^◌, ◌≤◌, true, false, pos, ap, true≢false, mul-pos, arith, lit<}
+use Rattle.std.proofs.Common.{◌≡◌, ℕ, ◌*◌, ◌≤◌, true, false, pos, ap, true≢false, mul-pos, arith, lit<}
 use lib.Ieee.{Float, nan, inf, fin, binary32, up, down, round, div, of_int}
 use lib.Ieee.Back.{round_whole}
 use lib.Ieee.Exact.{HasValue}

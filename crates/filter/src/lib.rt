@@ -5,7 +5,7 @@
 #![tactic(auto)]
 
 ghost use Rattle.std.specs.Prelude.{◌≡◌, ◌+◌, ◌*◌, ◌≤◌, ◌<◌};
-ghost use Rattle.filter.specs.Filter.{Ticked, Paired, stage_at, stages, stage_count, ticked, pair_ticked, chained, AllStages};
+ghost use Rattle.filter.specs.Filter.{stage_at, stages, stage_count, ticked, pair_ticked, chained, AllStages};
 
 // A biquad's coefficients, divided by a0.
 #[derive(Clone, Copy)]

@@ -3,7 +3,7 @@ use mathlib.Core.List.{List, [], ◌∷◌, ◌++◌, map}
 use Prim.Native.Nat.{ℕ, zero, suc, ◌≤◌}
 use native.Mathlib.Omega.{arith}
 use lib.Dec.{lit≤}
-use lib.ListN.{get_or, take}
+use lib.ListN.{take}
 use lib.Ieee.{Float}
 use Rattle.program.specs.declared.region.FilterKind.{FilterKind}
 use Rattle.program.specs.declared.region.FilterKind.TheVariants.{Lpf1p, Hpf1p, Lpf2p, Hpf2p, Bpf2p, Brf2p, Lpf4p, Hpf4p, Lpf6p, Hpf6p, Peq, Lsh, Hsh}

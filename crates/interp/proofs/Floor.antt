@@ -1,5 +1,5 @@
 -- The floor of a position by its whole part. Assumes nothing.
-use Rattle.std.proofs.Common.{◌≡◌, ℕ, ◌-◌, ◌*◌, ◌/◌, ◌^◌, ◌≤◌, min, Bool, true, false, ◌&&◌, T, eqb, ℤ, pos, sym, refl, ap, ◌∙◌, subst, true≢false, arith, eqb→eq}
+use Rattle.std.proofs.Common.{◌≡◌, ℕ, ◌-◌, ◌*◌, ◌/◌, ◌^◌, ◌≤◌, min, Bool, true, false, T, eqb, ℤ, pos, sym, refl, ap, ◌∙◌, subst, true≢false, arith, eqb→eq}
 use native.Mathlib.Nat.{zero-div}
 use lib.Ieee.Back.{round_whole, whole_unique}
 use lib.Ieee.Bits.{is_true}

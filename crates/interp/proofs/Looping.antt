@@ -1,6 +1,6 @@
 -- A loop's size comes off a position exactly, so that any number of turns is one difference. Assumes nothing.
-use Rattle.std.proofs.Common.{◌≡◌, ℕ, zero, suc, ◌+◌, ◌-◌, ◌*◌, ◌/◌, ◌%◌, ◌^◌, ◌<◌, ◌≤◌, min, Bool, true, false, not, ◌&&◌, T, eqb, ltb, leb, ℤ, pos, negsuc, sym, refl, ap, ◌∙◌, subst, true≢false, le_trans, le_refl, lt_of_lt_of_le, lt_irrefl, mul-le-mul_right, mul_assoc, mul_comm, div-lt_iff_lt-mul, mul-le-mul_left, mul-pos, zero-mul, mul-one, div-mul-le_self, mul_left_comm, add-one, arith, eqb→eq, ltb→lt, leb→le, pow_mono, pow-add, shl_lt, le-ltb}
-use native.Mathlib.Nat.{mul-sub, zero-div}
+use Rattle.std.proofs.Common.{◌≡◌, ℕ, zero, suc, ◌+◌, ◌-◌, ◌*◌, ◌/◌, ◌%◌, ◌^◌, ◌<◌, ◌≤◌, min, Bool, true, false, not, ◌&&◌, T, eqb, ltb, leb, ℤ, pos, negsuc, sym, refl, ap, ◌∙◌, subst, true≢false, le_trans, le_refl, lt_of_lt_of_le, lt_irrefl, mul-le-mul_right, mul_assoc, div-lt_iff_lt-mul, mul-le-mul_left, mul-pos, zero-mul, mul-one, div-mul-le_self, add-one, arith, eqb→eq, ltb→lt, leb→le, pow_mono, pow-add, shl_lt}
+use native.Mathlib.Nat.{zero-div}
 use lib.Dec.{nleb→lt}
 use lib.Pow.{pow-lt}
 use lib.Ieee.Back.{round_whole}
@@ -9,8 +9,7 @@ use lib.Ieee.Digits.{back}
 use lib.Ieee.Exact.{HasValue, round_exact}
 use lib.Ieee.Fits.{down_pos, and_l, and_r}
 use lib.Ieee.Order.{transfer, le_of_values}
-use lib.Ieee.Scale.{round_same}
-use lib.Ieee.{Float, nan, inf, fin, binary64, prec, low, emax, up, down, round, add, sub, neg, sum, le, lt, eq, of_int, of_bits, to_unsigned, fits}
+use lib.Ieee.{Float, nan, inf, fin, binary64, prec, low, up, down, round, sub, le, lt, eq, of_int, of_bits, to_unsigned, fits}
 use Rattle.interp.specs.Position.{Position, double, floored, less_while, first, furthest}
 use Rattle.interp.proofs.Difference.{differ}
 use Rattle.interp.proofs.Floor.{floor-zero, zero-eq}

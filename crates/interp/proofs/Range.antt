@@ -1,5 +1,5 @@
 -- The whole part of a float from 0 to a whole number is within that range, and the machine may cut the float to it. Assumes nothing.
-use Rattle.std.proofs.Common.{◌≡◌, ℕ, ◌+◌, ◌*◌, ◌/◌, ◌^◌, ◌<◌, ◌≤◌, Bool, true, false, not, ◌&&◌, ◌||◌, T, eqb, ltb, ℤ, pos, mul-le-mul_right, arith, eqb→eq, ltb→lt, lt→ltb}
+use Rattle.std.proofs.Common.{◌≡◌, ℕ, ◌+◌, ◌*◌, ◌/◌, ◌^◌, ◌<◌, ◌≤◌, Bool, true, false, ◌&&◌, ◌||◌, T, eqb, ltb, ℤ, pos, mul-le-mul_right, arith, eqb→eq, ltb→lt, lt→ltb}
 use lib.Pow.{pow-lt}
 use lib.Ieee.Fits.{and_l, down_pos}
 use lib.Ieee.Nearest.{div_mono}

@@ -1,5 +1,5 @@
 -- From a kernel at a place to a channel at a position, and from two channels to a pair. Assumes nothing.
-use Rattle.std.proofs.Common.{◌≡◌, ℕ, ◌+◌, Bool, true, false, List, sym, ap, ◌∙◌}
+use Rattle.std.proofs.Common.{◌≡◌, ℕ, ◌+◌, true, false, List}
 use lib.Ieee.{Float, to_unsigned}
 use Rattle.exact.specs.Single.{f0}
 use Rattle.interp.specs.Position.{fraction}

@@ -1,5 +1,5 @@
 -- The Hermite weights where the order of the distances tells their signs. Assumes nothing.
-use Rattle.std.proofs.Common.{◌≡◌, ℕ, ◌+◌, ◌*◌, ◌<◌, Bool, true, false, cond, not, ◌&&◌, ltb, ℤ, pos, sym, refl, ap, ◌∙◌, true≢false, mul-pos, arith, lit<, ltb-false}
+use Rattle.std.proofs.Common.{◌≡◌, ℕ, ◌+◌, ◌*◌, ◌<◌, Bool, true, false, not, ◌&&◌, ltb, ℤ, pos, sym, refl, ◌∙◌, true≢false, mul-pos, arith, lit<, ltb-false}
 use lib.Ieee.{Float, nan, inf, fin, lt, neg, of_bits, up, down}
 use lib.Ieee.Fits.{down_pos}
 use borrow.Author.Tests.{not-true}

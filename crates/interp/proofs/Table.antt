@@ -1,6 +1,6 @@
 -- The table is read inside it, and a tap by its place in the table is the definition's. Assumes nothing.
 -- Of a magnitude below 16, 512 times that is at most 8192.
-use Rattle.std.proofs.Common.{◌≡◌, ℕ, zero, suc, ◌+◌, ◌*◌, ◌^◌, ◌<◌, ◌≤◌, Bool, true, false, cond, not, T, ltb, ◌≢◌, List, length, get_or, set, ℤ, sym, refl, ap, ◌∙◌, subst, inl, inr, lt_irrefl, le_antisymm, eq-or-lt_of_le, arith, le→leb, ltb→lt, get_or-set_other, get_or-set_same, le-leb}
+use Rattle.std.proofs.Common.{◌≡◌, ℕ, zero, suc, ◌+◌, ◌*◌, ◌^◌, ◌<◌, ◌≤◌, Bool, true, false, cond, not, T, ltb, ◌≢◌, List, length, get_or, set, sym, refl, ap, ◌∙◌, subst, inl, inr, lt_irrefl, le_antisymm, eq-or-lt_of_le, arith, le→leb, ltb→lt, get_or-set_other, get_or-set_same, le-leb}
 use lib.Ieee.Back.{unsigned_back}
 use lib.Ieee.Fits.{down_pos}
 use lib.Ieee.Order.{round_mono}

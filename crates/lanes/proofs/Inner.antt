@@ -2,12 +2,12 @@
 -- The part of the way is from 0 to 1, so its sum with a whole number of frames is, rounded, no further away than the next whole number.
 use mathlib.Core.Path.{◌≡◌, refl, sym, ap, subst, ◌∙◌}
 use mathlib.Core.Bool.{Bool, true, false, not, cond, true≢false, ◌&&◌}
-use Prim.Native.Nat.{ℕ, zero, suc, ◌+◌, ◌-◌, ◌*◌, ◌^◌, ◌≤◌, ◌<◌}
-use native.Mathlib.Nat.{mul-one, mul_assoc, mul_comm, mul_left_comm, mul-pos, mul-sub, mul-le-mul_right, mul-lt-mul_of_pos_right, lt_of_mul-lt-mul_right, lt_of_le_of_lt, le_trans}
+use Prim.Native.Nat.{ℕ, ◌+◌, ◌-◌, ◌*◌, ◌^◌, ◌≤◌, ◌<◌}
+use native.Mathlib.Nat.{mul-one, mul_assoc, mul_comm, mul_left_comm, mul-pos, mul-sub, mul-le-mul_right, mul-lt-mul_of_pos_right, lt_of_mul-lt-mul_right}
 use native.Mathlib.Omega.{arith}
 use borrow.Author.Tests.{lt-ltb}
 use lib.Dec.{T, ltb, leb, eqb, ltb→lt, lt→ltb, leb→le, nleb→lt}
-use lib.IntN.{ℤ, pos}
+use lib.IntN.{ℤ}
 use lib.Ieee.Back.{round_whole}
 use lib.Ieee.Exact.{HasValue}
 use lib.Ieee.Fits.{down_pos}
@@ -16,7 +16,7 @@ use lib.Ieee.Scale.{round_same}
 use lib.Ieee.{Float, nan, inf, fin, binary32, up, down, round, add, sub, neg, sum, mul, unlike, lt, le, eq, is_nan, of_int, of_bits}
 use Rattle.exact.proofs.Negation.{neg-round}
 use Rattle.exact.specs.Value.{plus}
-use Rattle.exact.specs.Single.{◌⊕◌, ◌⊖◌, ◌⊗◌, single, f1, f16, f8193}
+use Rattle.exact.specs.Single.{◌⊕◌, ◌⊖◌, ◌⊗◌, single, f1, f16}
 use Rattle.exact.specs.Order.{magnitude}
 use Rattle.interp.specs.Sinc.{crossings_of}
 use Rattle.interp.specs.Places.{place_of, entry_of}

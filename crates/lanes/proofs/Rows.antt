@@ -13,7 +13,7 @@ use lib.Ieee.{Float, nan, lt, is_nan, to_unsigned}
 use Rattle.exact.specs.Single.{◌⊕◌, ◌⊖◌, ◌⊗◌, single, f0, f1, f16}
 use Rattle.exact.specs.Order.{magnitude}
 use Rattle.interp.specs.Points.{frame_at}
-use Rattle.interp.specs.Sinc.{crossings_of, taps, mean_of, sinc_at}
+use Rattle.interp.specs.Sinc.{crossings_of, taps, sinc_at}
 use Rattle.interp.specs.Places.{place_of, entry_of, part_of, tapped_by}
 use Rattle.lanes.specs.Four.{Part, Inside, Parts, InFrames, Spot, AtRow, Rows, Low, lane0, lane1, lane2, lane3, RowOf, place_from, means_of, sinc_four}
 use Rattle.interp.specs.declared.sinc.SincSpan.{SincSpan}

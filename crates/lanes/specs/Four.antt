@@ -5,7 +5,7 @@ use Rattle.std.specs.Float.Ieee.{lt, le}
 use Rattle.exact.specs.Value.{plus}
 use Rattle.exact.specs.Single.{◌⊖◌, ◌⊗◌, single, f1, f16}
 use Rattle.exact.specs.Order.{magnitude}
-use Rattle.interp.specs.Sinc.{crossings_of, taps, mean_of, sinc_at}
+use Rattle.interp.specs.Sinc.{crossings_of, mean_of, sinc_at}
 use Rattle.interp.specs.Places.{entry_of, part_of, tapped_by}
 use Rattle.interp.specs.declared.sinc.SincSpan.{SincSpan}
 use Rattle.interp.specs.declared.sinc.Sums.{Sums}
@@ -13,7 +13,6 @@ use Rattle.lanes.specs.declared.four.Four.{Four}
 use Rattle.lanes.specs.declared.four.Starts.{Starts}
 use Rattle.lanes.specs.declared.four.Lanes.{Lanes}
 use Rattle.lanes.specs.declared.four.PairLanes.{PairLanes}
-use Rattle.lanes.specs.declared.four.FourPairs.{FourPairs}
 
 -- how far a position lies behind its frame: from 0 to 1
 abbrev pub Part : Float → Type 0

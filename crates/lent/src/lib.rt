@@ -1,6 +1,7 @@
 // The two places that also take their state lent: the choke walk over a lent slice of records, and the step of a lent
 // envelope. Both are thin: what is done to one record, and to an envelope, is the by-value call.
 #![tactic(auto)]
+
 ghost use Rattle.std.specs.Prelude.{◌≡◌};
 ghost use Rattle.session.specs.Rules.{choke};
 ghost use Rattle.envelope.specs.Envelope.{env_next};

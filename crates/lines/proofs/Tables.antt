@@ -1,18 +1,17 @@
 -- Laws of the rows of a line's fields: a row more, and no more. Assumes nothing.
 use Prim.Native.Nat.{ℕ, zero, suc, ◌+◌, ◌-◌, ◌<◌, ◌≤◌}
 use mathlib.Core.Path.{◌≡◌, refl, sym, ap, ◌∙◌}
-use mathlib.Core.Bool.{Bool, true, false, cond, ◌&&◌}
+use mathlib.Core.Bool.{Bool, true, false, ◌&&◌}
 use mathlib.Core.List.{List, [], ◌∷◌, map}
 use native.Mathlib.Omega.{arith}
-use lib.Dec.{eqb}
 use lib.Ieee.{binary32, to_bits}
 use lib.ListN.{length, get_or, set, take, drop}
 use lib.Seq.{drop-cons}
-use borrow.Author.Tests.{eq-eqb, ne_eqb}
+use borrow.Author.Tests.{ne_eqb}
 use Rattle.lines.specs.declared.rows.Row.{Row}
-use Rattle.lines.specs.Fields.{field_at, has_fields, is_none, is_number, number, is_capital_single, is_signed, signed, single, word_of}
+use Rattle.lines.specs.Fields.{field_at, is_none, is_number, number, is_capital_single, is_signed, signed, single, word_of}
 use Rattle.lines.specs.Desk.{max64, is_maybe, sample_of}
-use Rattle.lines.specs.Rows.{rows, no_row, is_tied, row_fits, fields_fit, line_fits, flagged, put_row, put_fields, form_fits, form_word, region_rows, filter_rows, band_rows}
+use Rattle.lines.specs.Rows.{rows, no_row, is_tied, row_fits, fields_fit, flagged, put_row, put_fields, form_fits, form_word, region_rows, filter_rows, band_rows}
 
 rows-length : length rows ≡ 77
 unfolding rows

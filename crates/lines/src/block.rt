@@ -1,5 +1,5 @@
 // The lines of the block lister. `rows` says what each field means.
-ghost use Rattle.std.specs.Prelude.{◌≡◌, ◌+◌};
+ghost use Rattle.std.specs.Prelude.{◌≡◌};
 ghost use Rattle.lines.specs.Block.{entry_line, sample_test, sample_at, sample_line, region_line, region_words, point_line, filter_line, filter_words, band_line, band_words, voice_line, input_at, input_line, play_at, play_line, voice_at, ask_line, reset_line, close_line, program_line, block_line};
 
 use super::desk::is_none;

@@ -5,7 +5,6 @@ use Rattle.std.specs.Float.Ieee.{le, of_bits}
 use Rattle.filter.specs.Filter.{AllStages}
 use Rattle.interp.specs.Position.{Position, first, double}
 use Rattle.player.specs.declared.Cold.{Cold}
-use Rattle.player.specs.declared.LoopRt.{LoopRt}
 use Rattle.player.specs.declared.Player.{Player}
 use Rattle.player.specs.declared.MaybeLoop.{MaybeLoop}
 use Rattle.player.specs.declared.MaybeLoop.TheVariants.{Absent, Present}

@@ -1,6 +1,7 @@
 // A sounding region: where it stands in its sample, its envelope, its filters, and what it adds to a block's two outputs.
 // `Hot` is what a frame changes, `Cold` what frames only read.
 #![tactic(auto)]
+
 pub mod pitch;
 pub mod start;
 

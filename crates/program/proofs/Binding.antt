@@ -1,17 +1,16 @@
 -- Laws of binding. Assumes nothing.
-use Prim.Native.Nat.{ℕ, zero, suc, ◌+◌, ◌-◌, ◌*◌, ◌/◌, ◌<◌, ◌≤◌}
+use Prim.Native.Nat.{ℕ, zero, suc, ◌+◌, ◌-◌, ◌<◌, ◌≤◌}
 use mathlib.Core.Path.{◌≡◌, refl, sym, ap, ◌∙◌}
-use mathlib.Core.Bool.{Bool, true, false, not, cond, ◌&&◌}
+use mathlib.Core.Bool.{Bool, true, false, cond, ◌&&◌}
 use mathlib.Core.List.{List, [], ◌∷◌, map}
 use mathlib.Core.Logic.{◌⊎◌, inl, inr}
-use native.Mathlib.Nat.{eq-or-lt_of_le, sub-zero}
+use native.Mathlib.Nat.{eq-or-lt_of_le}
 use native.Mathlib.Omega.{arith}
-use lib.ListN.{length, get_or}
-use lib.Dec.{leb, ltb, eqb}
+use lib.ListN.{get_or}
+use lib.Dec.{leb, eqb}
 use lib.Ieee.{Float}
 use borrow.Author.Tests.{leb-true, eq-eqb, ne_eqb, lt-leb, le-leb}
 use Rattle.program.proofs.Checks.{every-no, after, final}
-use Rattle.program.specs.Region.{words_of}
 use Rattle.program.specs.Valid.{every, counts_tests, CountsIn}
 use Rattle.program.specs.Bind.{indexes, first_bad, counts_in, counts_ok, region_count, sample_count, region_in, sample_in, shape_in, bad_region, bad_sample, table_ok, bound, refused, bound_of, binding}
 

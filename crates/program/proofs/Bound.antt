@@ -1,20 +1,20 @@
 -- What a block may count on: a program that was bound passes the block's test, and one that passes it has good regions and samples. Assumes nothing.
 use Prim.Native.Nat.{ℕ, zero, suc, ◌+◌, ◌*◌, ◌<◌, ◌≤◌}
 use mathlib.Core.Path.{◌≡◌, refl, sym, ap, ◌∙◌}
-use mathlib.Core.Bool.{Bool, true, false, cond, ◌&&◌, ◌||◌}
+use mathlib.Core.Bool.{Bool, true, false, cond, ◌&&◌}
 use mathlib.Core.List.{List, [], ◌∷◌}
 use mathlib.Core.Logic.{◌⊎◌, inl, inr}
 use native.Mathlib.Nat.{eq-or-lt_of_le, zero-add}
 use native.Mathlib.Omega.{arith}
 use lib.ListN.{length, get_or}
-use lib.Dec.{leb, ltb, eqb}
+use lib.Dec.{eqb}
 use lib.Ieee.{Float}
 use borrow.Author.Tests.{leb-true, eqb-true, eq-eqb, le-leb}
 use Rattle.program.specs.declared.bind.BoundProgram.{BoundProgram}
-use Rattle.program.specs.Region.{words_of, region_of}
+use Rattle.program.specs.Region.{words_of}
 use Rattle.program.specs.Valid.{every, all_finite, valid_region, CountsIn}
 use Rattle.program.specs.Sample.{sample_at, shape_tests, sample_tests}
-use Rattle.program.specs.Bind.{Answer, bound, refused, region_count, sample_count, first_bad, counts_in, counts_ok, region_in, sample_in, shape_in, bad_region, bad_sample, table_ok, bound_of, binding, program_tests, program_ok}
+use Rattle.program.specs.Bind.{bound, refused, region_count, sample_count, first_bad, counts_in, counts_ok, region_in, sample_in, shape_in, bad_region, bad_sample, table_ok, bound_of, binding, program_tests, program_ok}
 use Rattle.program.proofs.Finite.{and-true}
 use Rattle.program.proofs.Checks.{after, final}
 use Rattle.program.proofs.Binding.{every-at, every-index, counts-known, few-parts}

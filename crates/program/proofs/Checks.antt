@@ -8,14 +8,12 @@ use native.Mathlib.Omega.{arith}
 use lib.ListN.{get_or, take}
 use lib.IntN.{ℤ, pos, negsuc}
 use lib.Signed.{le_z}
-use lib.Dec.{ltb, leb, eqb}
+use lib.Dec.{ltb, leb}
 use borrow.Author.Tests.{lt-ltb, le-ltb, lt-leb, le-leb}
 use lib.Ieee.{Float, lt, neg}
 use Rattle.program.proofs.Finite.{and-true}
-use Rattle.program.specs.declared.region.Filter.{Filter}
-use Rattle.program.specs.declared.region.EqBand.{EqBand}
 use Rattle.program.specs.Region.{float_of, filter_of, filters_from, filters_of, band_of, bands_from, bands_of, byte_of, word, window_of, pitch_of, envelope_of, choke_of, playback_of, region_of}
-use Rattle.program.specs.Valid.{every, all_finite, is_finite, run, within, filter_numbers, filters_finite, band_numbers, bands_finite, window_tests, keys_tests, not_above, times_tests}
+use Rattle.program.specs.Valid.{every, all_finite, run, within, filter_numbers, filters_finite, band_numbers, bands_finite, window_tests, keys_tests, not_above, times_tests}
 
 -- one test that fails is enough
 pub every-no : (ts : List Bool) (i : ℕ) → get_or ts i true ≡ false → false ≡ every ts

@@ -6,7 +6,7 @@ use mathlib.Core.List.{List, [], ◌∷◌, map}
 use mathlib.Core.Logic.{◌⊎◌, inl, inr}
 use native.Mathlib.Nat.{add-zero, zero-add}
 use native.Mathlib.Omega.{arith}
-use lib.Dec.{leb, ltb, eqb}
+use lib.Dec.{leb, eqb}
 use lib.ListN.{get_or}
 use lib.Ieee.{Float, nan}
 use Rattle.program.specs.Bind.{indexes}
@@ -14,7 +14,7 @@ use borrow.Author.Tests.{lt-leb, le-leb, eq-eqb, ne_eqb, leb-true, leb-false, eq
 use Rattle.program.specs.declared.curve.Side.{Side}
 use Rattle.program.specs.declared.curve.Near.{Near}
 use Rattle.program.specs.Region.{word, float_of}
-use Rattle.program.specs.Curve.{Point, point_of, points_from, points_of, Gain, unset, given, is_given, number_of, preset, put, table_of, lower, upper, linear, gain_at, velcurve_table, side_step, near_step, near_of, near_first}
+use Rattle.program.specs.Curve.{Point, point_of, points_from, Gain, given, is_given, number_of, preset, put, table_of, lower, upper, linear, gain_at, velcurve_table, side_step, near_step, near_of, near_first}
 
 module _ (p : Point) (tab : ℕ → Gain) where
   -- the point's own velocity, and any other

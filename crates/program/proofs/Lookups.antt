@@ -5,9 +5,8 @@ use mathlib.Core.Bool.{Bool, true, false, cond, ◌&&◌, ◌||◌}
 use mathlib.Core.List.{List, [], ◌∷◌, map}
 use native.Mathlib.Nat.{sub-zero}
 use native.Mathlib.Omega.{arith}
-use lib.Dec.{leb, ltb, eqb}
-use borrow.Author.Tests.{lt-leb, le-leb, eq-eqb, ne_eqb, leb-true, leb-false}
-use Rattle.program.specs.declared.lookup.Found.{Found}
+use lib.Dec.{leb}
+use borrow.Author.Tests.{lt-leb, le-leb, eq-eqb, ne_eqb}
 use Rattle.program.specs.declared.lookup.Found.TheVariants.{At, Nothing}
 use Rattle.program.specs.declared.lookup.SampleOf.TheVariants.{Silence, Plays}
 use Rattle.program.specs.Region.{region_at}

@@ -1,19 +1,18 @@
 -- Laws of samples and their frames. Assumes nothing.
-use Prim.Native.Nat.{ℕ, zero, suc, ◌+◌, ◌-◌, ◌*◌, ◌%◌, ◌<◌, ◌≤◌}
-use mathlib.Core.Path.{◌≡◌, refl, sym, ap, subst, ◌∙◌}
+use Prim.Native.Nat.{ℕ, suc, ◌+◌, ◌-◌, ◌*◌, ◌%◌, ◌<◌, ◌≤◌}
+use mathlib.Core.Path.{◌≡◌, sym, ap, subst, ◌∙◌}
 use mathlib.Core.Bool.{Bool, true, false, not, ◌&&◌}
-use mathlib.Core.List.{List, [], ◌∷◌, map}
-use native.Mathlib.Nat.{add_assoc, sub-zero, add-zero, mul-le-mul}
-use native.Mathlib.Numerals.{add-one}
+use mathlib.Core.List.{List}
+use native.Mathlib.Nat.{sub-zero, add-zero, mul-le-mul}
 use native.Mathlib.Omega.{arith}
 use lib.ListN.{length, get_or, take, drop}
 use lib.Seq.{drop-cons}
-use lib.Dec.{T, ltb, leb}
-use lib.Ieee.{Float, nan, inf, fin, binary32, fits, is_nan, ne, eq, to_bits, of_bits}
+use lib.Dec.{T, ltb}
+use lib.Ieee.{Float, nan, inf, fin, binary32, fits, is_nan, ne, eq, to_bits}
 use lib.Ieee.Bits.{of_bits-to_bits}
 use lib.Ieee.Compare.{differs_from_itself}
 use Rattle.program.proofs.Finite.{finite-bits}
-use Rattle.program.specs.Valid.{every, is_finite, all_finite}
+use Rattle.program.specs.Valid.{is_finite, all_finite}
 
 pub nan-not-finite : (x : Float) → T (ne x x) → false ≡ is_finite x
 unfolding is_finite

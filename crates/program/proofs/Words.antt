@@ -1,14 +1,14 @@
 -- Laws of a region's words. Assumes nothing.
-use Prim.Native.Nat.{ℕ, zero, suc, ◌+◌, ◌-◌, ◌*◌, ◌/◌, ◌%◌, ◌<◌, ◌≤◌}
+use Prim.Native.Nat.{ℕ, zero, suc, ◌+◌, ◌-◌, ◌*◌, ◌%◌, ◌<◌, ◌≤◌}
 use mathlib.Core.Path.{◌≡◌, refl, sym, ap, ◌∙◌}
-use mathlib.Core.Bool.{Bool, true, false, not, ◌&&◌}
-use mathlib.Core.List.{List, [], ◌∷◌}
+use mathlib.Core.Bool.{true, not}
+use mathlib.Core.List.{List}
 use native.Mathlib.Nat.{zero-add, add-zero}
 use lib.Seq.{get_or-take, get_or-drop}
 use lib.ListN.{length, get_or, take, drop, replicate, length-take, length-drop, get_or-eq_default}
 use native.Mathlib.Omega.{arith}
 use lib.IntN.{ℤ, pos, negsuc, ◌-ℤ◌}
-use lib.Dec.{T, ltb, leb, eqb}
+use lib.Dec.{T}
 use lib.Ieee.{binary32, nan_bits, is_nan, nan, Float, of_bits, inf, fin}
 use lib.Ieee.Bits.{nan_bits_above, nan_bits_is}
 use borrow.Author.Tests.{lt-ltb, le-ltb, le-leb, lt-leb}

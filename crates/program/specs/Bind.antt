@@ -1,5 +1,5 @@
 -- Binding: 01's tests 1, 2, 3 and 4 in that order, and what is bound. Definitions only.
-use Rattle.std.specs.Prelude.{ℕ, zero, suc, ◌+◌, ◌/◌, Bool, true, false, cond, ◌&&◌, List, [], ◌∷◌, map, length, leb, eqb, Float}
+use Rattle.std.specs.Prelude.{ℕ, zero, suc, ◌+◌, ◌/◌, Bool, cond, ◌&&◌, List, [], ◌∷◌, map, length, leb, eqb, Float}
 use Rattle.program.specs.declared.bind.BoundProgram.{BoundProgram}
 use Rattle.program.specs.declared.bind.Bound.{Bound}
 use Rattle.program.specs.declared.bind.Bound.TheVariants.{Done, Counts, BadRegion, BadSample, BadTable}

@@ -4,7 +4,7 @@ use Rattle.std.specs.Float.{binary32}
 use Rattle.std.specs.Float.Ieee.{add, sub, mul, div, of_int}
 use Rattle.program.specs.declared.curve.Side.{Side}
 use Rattle.program.specs.declared.curve.Near.{Near}
-use Rattle.program.specs.Region.{float_of, byte_of, word, words_of}
+use Rattle.program.specs.Region.{float_of, word, words_of}
 use Rattle.program.specs.Bind.{indexes}
 
 pub record Point : Type 0 where

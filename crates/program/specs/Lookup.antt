@@ -1,5 +1,5 @@
 -- Lookup in a bound program: the Rust's `regions_for_key`, `sample_of` and `has_release_for`. Definitions only.
-use Rattle.std.specs.Prelude.{ℕ, ◌+◌, ◌-◌, min, Bool, true, false, cond, ◌&&◌, ◌||◌, List, [], ◌∷◌, map, leb, eqb}
+use Rattle.std.specs.Prelude.{ℕ, ◌-◌, min, Bool, true, false, cond, ◌&&◌, ◌||◌, List, [], ◌∷◌, map, leb, eqb}
 use Rattle.program.specs.declared.region.Trigger.{Trigger}
 use Rattle.program.specs.declared.region.Trigger.TheVariants.{Attack, Release, ReleaseKey, First, Legato}
 use Rattle.program.specs.declared.lookup.Found.{Found}

@@ -1,5 +1,5 @@
 -- A region's words and the region that they mean: docs/PROGRAM.md's table. Definitions only.
-use Rattle.std.specs.Prelude.{ℕ, zero, suc, ◌+◌, ◌-◌, ◌*◌, ◌%◌, min, Bool, true, false, not, cond, List, [], ◌∷◌, length, get_or, take, drop, replicate, ltb, leb, eqb, ℤ, pos, negsuc, Float}
+use Rattle.std.specs.Prelude.{ℕ, zero, suc, ◌+◌, ◌-◌, ◌*◌, min, not, cond, List, [], ◌∷◌, length, get_or, take, drop, replicate, ltb, leb, eqb, ℤ, pos, negsuc, Float}
 use Rattle.std.specs.Float.{binary32}
 use Rattle.std.specs.Float.Ieee.{of_bits}
 use Rattle.program.specs.declared.region.LoopMode.{LoopMode}
@@ -26,7 +26,6 @@ use Rattle.program.specs.declared.region.Rand.{Rand}
 use Rattle.program.specs.declared.region.Rand.TheVariants.{AnyDraw, Within}
 use Rattle.program.specs.declared.region.XfVel.{XfVel}
 use Rattle.program.specs.declared.region.XfVel.TheVariants.{NoCrossfade, Crossfade}
-use Rattle.program.specs.declared.region.VelCrossfade.{VelCrossfade}
 use Rattle.program.specs.declared.region.Envelope.{Envelope}
 use Rattle.program.specs.declared.region.Filter.{Filter}
 use Rattle.program.specs.declared.region.EqBand.{EqBand}

@@ -1,9 +1,8 @@
 // Binding a program: 01's tests 1 to 4, and the program's share of its test 8.
-ghost use Rattle.std.specs.Prelude.{◌≡◌, true, map, ℕ, ◌+◌, ◌*◌, ◌/◌, ◌≤◌, ◌<◌, length};
-ghost use Rattle.program.specs.Region.{words_of};
-ghost use Rattle.program.specs.Valid.{every, CountsIn};
-ghost use Rattle.program.specs.Sample.{sample_at, shape_tests};
-ghost use Rattle.program.specs.Bind.{region_count, sample_count, indexes, counts_in, region_in, sample_in, shape_in, first_bad, counts_ok, table_ok, answer_of, binding, program_ok};
+ghost use Rattle.std.specs.Prelude.{◌≡◌, true, map, ◌+◌, ◌*◌, ◌/◌, ◌≤◌, ◌<◌, length};
+ghost use Rattle.program.specs.Valid.{every};
+ghost use Rattle.program.specs.Sample.{sample_at};
+ghost use Rattle.program.specs.Bind.{indexes, counts_in, region_in, sample_in, shape_in, first_bad, counts_ok, table_ok, answer_of, binding, program_ok};
 
 use super::check::{counts_in, region_ok};
 use super::sample::{frames_finite, sample_at, sample_ok, shape_ok};

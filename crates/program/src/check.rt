@@ -1,5 +1,5 @@
 // Test 2 of a binding, on one region's words: the Rust's `validate_region`, with the limits that 01 adds to it.
-ghost use Rattle.std.specs.Prelude.{◌≡◌, ◌+◌, ◌*◌, ◌≤◌, ◌<◌, map, length, leb, [], ◌∷◌, pos, negsuc};
+ghost use Rattle.std.specs.Prelude.{◌≡◌, ◌+◌, ◌≤◌, ◌<◌, map, length, leb, [], ◌∷◌, pos, negsuc};
 ghost use Rattle.std.specs.Int.Signed.{le_z};
 ghost use Rattle.program.specs.Region.{byte_of, float_of, signed_of, word, loop_points_of, seq_of, rand_of, crossfade_of, region_of};
 ghost use Rattle.program.specs.Valid.{every, all_finite, run, window_tests, keys_tests, sample_known, loop_in_order, seq_in_turn, rand_numbers, crossfade_numbers, filters_finite, bands_finite, not_above, within, times_tests, pitch_tests, point_tests, number_tests, valid_region, counts_tests, CountsIn};

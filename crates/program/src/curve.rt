@@ -1,7 +1,6 @@
 // A region's velocity curve: an entry of the Rust's `velcurve_table`, found in one pass over the points.
 ghost use Rattle.std.specs.Prelude.{◌≡◌, ◌&&◌, ◌+◌, ◌*◌, ◌≤◌, ◌<◌, min, length, leb};
-ghost use Rattle.program.specs.Region.{word};
-ghost use Rattle.program.specs.Curve.{point_of, points_of, near_step, near_of, near_first, side_step, linear, preset, table_of, gain_at, velcurve_at};
+ghost use Rattle.program.specs.Curve.{points_of, near_step, near_of, near_first, side_step, linear, velcurve_at};
 
 use super::region::float_of;
 

@@ -1,5 +1,5 @@
 // Lookup in a bound program: the Rust's `regions_for_key`, `sample_of` and `has_release_for`.
-ghost use Rattle.std.specs.Prelude.{◌≡◌, ◌&&◌, ◌+◌, ◌*◌, ◌≤◌, ◌<◌, min};
+ghost use Rattle.std.specs.Prelude.{◌≡◌, ◌&&◌, ◌+◌, ◌*◌, ◌<◌, min};
 ghost use Rattle.program.specs.Region.{region_at};
 ghost use Rattle.program.specs.Lookup.{holds_key, regions_from, first_of, is_release, releases, has_release_for, sample_of_region};
 

@@ -1,8 +1,6 @@
 -- One claim over a whole run: the calls, the run of the port, the run of the definitions with its own bookkeeping, and the claim.
-use Rattle.std.specs.Prelude.{ℕ, zero, suc, ◌+◌, ◌-◌, ◌≤◌, ◌<◌, ◌^◌, ◌%◌, min, ◌≡◌, Bool, true, false, not, ◌&&◌, length, ltb, leb, eqb, Float}
-use mathlib.Core.List.{List, [], ◌∷◌, ◌++◌, map, foldl}
-use Rattle.std.specs.Float.{binary32}
-use Rattle.std.specs.Float.Ieee.{of_bits}
+use Rattle.std.specs.Prelude.{ℕ, ◌+◌, ◌-◌, ◌≤◌, ◌<◌, ◌^◌, min, ◌≡◌, Bool, true, false, not, length, leb, eqb, Float}
+use mathlib.Core.List.{List, [], ◌∷◌, foldl}
 use Rattle.exact.specs.Single.{f0}
 use Rattle.program.specs.declared.bind.BoundProgram.{BoundProgram}
 use Rattle.session.specs.Lists.{pick, keep, elem}

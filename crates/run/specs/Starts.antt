@@ -1,6 +1,6 @@
 -- The starts of a call, in turn, dropped ones included: each with the session's list and its voice's players as they then stand. These
 -- follow the definitions of events and blocks, and read what those read.
-use Rattle.std.specs.Prelude.{ℕ, zero, suc, ◌+◌, Bool, true, false, ◌&&◌, List, [], ◌∷◌, ◌++◌, get_or}
+use Rattle.std.specs.Prelude.{ℕ, zero, suc, ◌+◌, Bool, ◌&&◌, List, [], ◌∷◌, ◌++◌, get_or}
 use Rattle.exact.specs.Random.{drawn}
 use Rattle.program.specs.Bind.{indexes}
 use Rattle.session.specs.Lists.{pick, any}

@@ -8,7 +8,6 @@ ghost use Rattle.exact.specs.Single.{single, ◌⊖◌, ◌⊗◌, f1, f16};
 ghost use Rattle.interp.specs.Position.{Position};
 ghost use Rattle.interp.specs.declared.Interp.TheVariants.{Sinc};
 ghost use Rattle.player.specs.Bounds.{Step, LoopOk, ColdOk};
-ghost use Rattle.segments.specs.Source.{Lent};
 ghost use Rattle.segments.specs.Ahead.{Suited, Inner, Positions, AllInner, Kept, Alike, Placed};
 
 use super::source::{looping, place};

@@ -4,8 +4,7 @@ ghost use Rattle.filter.specs.Filter.{AllStages};
 ghost use Rattle.interp.specs.Position.{Position};
 ghost use Rattle.player.specs.Bounds.{ColdOk, PlayerOk};
 ghost use Rattle.segments.specs.Ahead.{Kept};
-ghost use Rattle.segments.specs.Source.{Lent};
-ghost use Rattle.segments.specs.Segment.{ends_now, fast_off, frame_after, frame_next, added, share, Run, run_for, after_run, went_off, played_by};
+ghost use Rattle.segments.specs.Segment.{ends_now, fast_off, frame_after, frame_next, added, share, run_for, after_run, went_off, played_by};
 
 use super::ahead::{ahead, suits};
 use super::plain::play_plain;

@@ -4,7 +4,7 @@ ghost use Rattle.std.specs.Float.Ieee.{le};
 ghost use Rattle.interp.specs.Position.{Position, furthest};
 ghost use Rattle.player.specs.Bounds.{LoopOk, Wrapped, ColdOk};
 ghost use Rattle.segments.specs.Ahead.{Kept};
-ghost use Rattle.segments.specs.Source.{Lent, current_loop, place_in, at_end, is_unity, stored_at, frame_of, s_curve, fade_of, in_fade, faded, crossfaded, read_frame};
+ghost use Rattle.segments.specs.Source.{current_loop, place_in, at_end, is_unity, stored_at, frame_of, s_curve, fade_of, in_fade, faded, crossfaded, read_frame};
 
 use super::ahead::known;
 use elementary::trig::cos;

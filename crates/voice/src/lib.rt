@@ -2,6 +2,7 @@
 // result or the refusal that its inputs call for, and a refused call changes nothing. A contract is one equation for all that the call
 // leaves, and beside it the number of its answer: 01's first cause that holds, 0 where none does.
 #![tactic(auto)]
+
 ghost use Rattle.std.specs.Prelude.{◌≡◌, length};
 ghost use Rattle.block.specs.Inputs.{Lent};
 ghost use Rattle.voice.specs.Calls.{number_of, called, fresh_voice, made, blocked, may_release, is_finished, Program, asked, silenced, was_reset, was_closed};

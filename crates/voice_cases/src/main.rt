@@ -1,6 +1,7 @@
 // Reaches every cause of 01's refusals 5 to 9 by the public calls, and beside each the neighbour that is taken: what each call answers, and
 // whether those that are turned back leave session, voice and both outputs as they were, bit for bit.
 #![tactic(auto)]
+
 use block::BlockTime;
 use cases::calls::{
     DONE, end_line, say, say_number, show_asked, show_close, show_make, show_reset,

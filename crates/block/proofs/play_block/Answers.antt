@@ -4,7 +4,6 @@ use Rattle.block.specs.Inputs.{Lent}
 use Rattle.exact.specs.Single.{f0}
 use lib.ListN.{replicate}
 use mathlib.Core.Path.{◌∙◌, sym, ap}
-use borrow.Author.Rules.{rules}
 use Rattle.block.proofs.play_block.Goals as goal
 
 pub start_block-p-requires : goal.start_block-p-requires

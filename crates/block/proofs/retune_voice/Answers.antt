@@ -1,5 +1,4 @@
 use Rattle.block.proofs.Wholes.{no_note, some-note, players-of}
-use borrow.Author.Rules.{rules}
 use Rattle.block.proofs.retune_voice.Goals as goal
 
 pub returns-in-Absent : goal.returns-in-Absent

@@ -1,5 +1,4 @@
 use Rattle.block.proofs.Wholes.{start_is}
-use borrow.Author.Rules.{rules}
 use Rattle.block.proofs.start_block.Goals as goal
 
 pub returns : goal.returns

@@ -1,7 +1,6 @@
 use Prim.Native.Nat.{◌-◌}
 use mathlib.Core.Path.{◌≡◌}
 use lib.ListN.{length}
-use borrow.Author.Rules.{rules}
 use Rattle.desk_replay.proofs.main.Given as goal
 
 abbrev pub invariant-loop-scripts : goal.invariant-loop-scripts

@@ -1,6 +1,4 @@
 use borrow.Author.Rules.{rules}
-use mir.Syntax.{w64}
-use mir.Val.{SFits}
 use Rattle.envelope.proofs.Delays.{first-none, second_none, room-bits, full-bits, fitting-bits}
 use Rattle.envelope.proofs.delay_sum.Goals as goal
 

@@ -1,4 +1,3 @@
-use borrow.Author.Rules.{rules}
 use Rattle.envelope.specs.Envelope.{exp_rate}
 use Rattle.envelope.proofs.exp_rate.Goals as goal
 

@@ -1,9 +1,9 @@
-use mathlib.Core.Path.{◌≡◌, refl, ap, ◌∙◌}
-use Prim.Native.Nat.{◌≤◌, ◌-◌}
+use mathlib.Core.Path.{refl, ap, ◌∙◌}
+use Prim.Native.Nat.{◌-◌}
 use native.Mathlib.Nat.{le_antisymm}
 use native.Mathlib.Numerals.{add-one}
 use native.Mathlib.Omega.{arith}
-use Rattle.filter.specs.Filter.{Ticked, stage_at, stages}
+use Rattle.filter.specs.Filter.{stage_at, stages}
 use Rattle.filter.proofs.biquad.Goals as goal
 
 pub loop-s-init : goal.loop-s-init

@@ -1,9 +1,6 @@
-use mathlib.Core.Path.{◌≡◌, refl, ap, ◌∙◌}
+use mathlib.Core.Path.{◌≡◌}
 use Prim.Native.Nat.{◌≤◌, ◌-◌}
-use native.Mathlib.Nat.{le_antisymm}
-use native.Mathlib.Numerals.{add-one}
-use native.Mathlib.Omega.{arith}
-use Rattle.filter.specs.Filter.{Ticked, stage_at, stages}
+use Rattle.filter.specs.Filter.{Ticked, stages}
 use Rattle.filter.proofs.biquad.Given as goal
 
 abbrev pub invariant-loop-s : goal.invariant-loop-s

@@ -1,9 +1,9 @@
-use mathlib.Core.Path.{◌≡◌, refl, ap, ◌∙◌}
-use Prim.Native.Nat.{◌≤◌, ◌-◌}
+use mathlib.Core.Path.{refl, ap, ◌∙◌}
+use Prim.Native.Nat.{◌-◌}
 use native.Mathlib.Nat.{le_antisymm}
 use native.Mathlib.Numerals.{add-one}
 use native.Mathlib.Omega.{arith}
-use Rattle.filter.specs.Filter.{Paired, pair_ticked, chained}
+use Rattle.filter.specs.Filter.{pair_ticked, chained}
 use Rattle.filter.proofs.chain.Goals as goal
 
 pub loop-k-init : goal.loop-k-init

@@ -1,9 +1,6 @@
-use mathlib.Core.Path.{◌≡◌, refl, ap, ◌∙◌}
+use mathlib.Core.Path.{◌≡◌}
 use Prim.Native.Nat.{◌≤◌, ◌-◌}
-use native.Mathlib.Nat.{le_antisymm}
-use native.Mathlib.Numerals.{add-one}
-use native.Mathlib.Omega.{arith}
-use Rattle.filter.specs.Filter.{Paired, pair_ticked, chained}
+use Rattle.filter.specs.Filter.{Paired, chained}
 use Rattle.filter.proofs.chain.Given as goal
 
 abbrev pub invariant-loop-k : goal.invariant-loop-k

@@ -2,7 +2,6 @@ use mathlib.Core.Path.{ap, sym, subst, ◌∙◌}
 use Prim.Native.Nat.{◌≤◌}
 use Rattle.filter.specs.Filter.{ticked, stage_count}
 use Rattle.filter.specs.declared.FilterShape.{FilterShape}
-use borrow.Author.Rules.{rules}
 use Rattle.filter.proofs.tick.Goals as goal
 
 pub biquad-requires : goal.biquad-requires

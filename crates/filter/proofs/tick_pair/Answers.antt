@@ -1,5 +1,4 @@
 use Rattle.filter.specs.Filter.{pair_ticked}
-use borrow.Author.Rules.{rules}
 use Rattle.filter.proofs.tick_pair.Goals as goal
 
 pub returns-then-stereo : goal.returns-then-stereo

@@ -1,5 +1,4 @@
 use Rattle.gain.specs.Gain.{cents_factor}
-use borrow.Author.Rules.{rules}
 use Rattle.gain.proofs.cents_factor.Goals as goal
 
 pub returns : goal.returns

@@ -1,4 +1,3 @@
-use borrow.Author.Rules.{rules}
 use Rattle.gain.proofs.curve_gain.Goals as goal
 
 pub returns-in-NoCurve : goal.returns-in-NoCurve

@@ -1,6 +1,4 @@
 use Rattle.gain.specs.Gain.{faded_in}
-use mathlib.Core.Logic.{⊎_elim}
-use borrow.Author.Rules.{rules}
 use Rattle.gain.proofs.fade_in.Goals as goal
 use Rattle.gain.proofs.fade_in.Goals.{else-len-via-then-len+else-v-xf-2, else-len-via-else-len}
 

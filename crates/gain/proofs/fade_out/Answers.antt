@@ -1,6 +1,4 @@
 use Rattle.gain.specs.Gain.{faded_out}
-use mathlib.Core.Logic.{⊎_elim}
-use borrow.Author.Rules.{rules}
 use Rattle.gain.proofs.fade_out.Goals as goal
 use Rattle.gain.proofs.fade_out.Goals.{else-len-via-then-len+else-v-xf, else-len-via-else-len}
 

@@ -1,4 +1,3 @@
-use borrow.Author.Rules.{rules}
 use Rattle.gain.proofs.fade_shape.Goals as goal
 
 pub returns-else-gain_curve : goal.returns-else-gain_curve

@@ -1,5 +1,4 @@
 use Rattle.gain.specs.Gain.{pan_matrix}
-use borrow.Author.Rules.{rules}
 use Rattle.gain.proofs.pan_matrix.Goals as goal
 
 pub returns-then-stereo : goal.returns-then-stereo

@@ -1,5 +1,4 @@
 use Rattle.gain.specs.Gain.{quarter_turn}
-use borrow.Author.Rules.{rules}
 use Rattle.gain.proofs.quarter_turn.Goals as goal
 
 pub returns : goal.returns

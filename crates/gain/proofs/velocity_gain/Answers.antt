@@ -1,5 +1,4 @@
 use Rattle.gain.specs.Gain.{velocity_gain}
-use borrow.Author.Rules.{rules}
 use Rattle.gain.proofs.velocity_gain.Goals as goal
 
 pub returns-then-vt : goal.returns-then-vt

@@ -1,5 +1,4 @@
 use Rattle.gain.specs.Gain.{crossfade_gain}
-use borrow.Author.Rules.{rules}
 use Rattle.gain.proofs.xf_gain.Goals as goal
 
 pub returns-in-NoCrossfade : goal.returns-in-NoCrossfade

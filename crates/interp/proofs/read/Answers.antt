@@ -1,6 +1,5 @@
 use Rattle.interp.specs.Read.{kernel_at}
 use Rattle.interp.proofs.Reading.{read_by}
-use Rattle.std.proofs.Common.{rules}
 use Rattle.interp.proofs.read.Goals as goal
 
 pub returns-in-Linear : goal.returns-in-Linear

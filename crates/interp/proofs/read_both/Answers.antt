@@ -1,6 +1,5 @@
 use Rattle.interp.specs.Read.{kernel_at}
 use Rattle.interp.proofs.Reading.{read_by, both}
-use Rattle.std.proofs.Common.{rules}
 use Rattle.interp.proofs.read_both.Goals as goal
 
 pub returns-in-Linear : goal.returns-in-Linear

@@ -1,6 +1,4 @@
-use Rattle.interp.specs.Read.{pair_at}
 use Rattle.interp.proofs.Reading.{mono}
-use Rattle.std.proofs.Common.{rules}
 use Rattle.interp.proofs.read_pair.Goals as goal
 
 pub returns-then-stereo : goal.returns-then-stereo

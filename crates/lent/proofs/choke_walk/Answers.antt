@@ -1,4 +1,4 @@
-use Rattle.std.proofs.Common.{◌≡◌, ℕ, ◌≤◌, ◌+◌, List, [], ◌++◌, map, length, get_or, set, take, drop, sym, refl, ap, ◌∙◌, arith, take_all, append-nil}
+use Rattle.std.proofs.Common.{◌≡◌, ℕ, ◌≤◌, List, map, length, get_or, set, refl, ap, ◌∙◌, arith, take_all, append-nil}
 use Rattle.std.proofs.lemmas.List.{drop_all}
 use Rattle.session.specs.Rules.{choke, choke_one}
 use Rattle.session.specs.declared.PlayerRecord.{PlayerRecord}

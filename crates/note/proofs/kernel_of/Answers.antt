@@ -2,7 +2,6 @@ use Rattle.note.specs.Note.{kernel_of}
 use mathlib.Core.Bool.{true, false}
 use borrow.Author.Tests.{not-true, not-false}
 use mathlib.Core.Path.{◌≡◌}
-use borrow.Author.Rules.{rules}
 use Rattle.note.proofs.kernel_of.Goals as goal
 
 pub returns-then-not-given : goal.returns-then-not-given

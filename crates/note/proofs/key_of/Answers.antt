@@ -1,5 +1,4 @@
 use Rattle.note.specs.Note.{key_of}
-use borrow.Author.Rules.{rules}
 use Rattle.note.proofs.key_of.Goals as goal
 
 pub returns : goal.returns

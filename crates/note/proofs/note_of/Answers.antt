@@ -5,7 +5,6 @@ use lib.Ieee.Scale.{finite}
 use mathlib.Core.Bool.{true, false}
 use borrow.Author.Tests.{not-true, not-false}
 use mathlib.Core.Path.{◌≡◌, sym, ◌∙◌}
-use borrow.Author.Rules.{rules}
 use Rattle.note.proofs.note_of.Goals as goal
 
 pub returns-then-not-freq : goal.returns-then-not-freq

@@ -1,5 +1,4 @@
 use Rattle.note.specs.Note.{note_state}
-use borrow.Author.Rules.{rules}
 use Rattle.note.proofs.note_state.Goals as goal
 
 pub returns : goal.returns

@@ -3,7 +3,6 @@ use lib.Ieee.Scale.{finite}
 use mathlib.Core.Bool.{true, false}
 use borrow.Author.Tests.{not-true, not-false}
 use mathlib.Core.Path.{◌≡◌, sym, ◌∙◌}
-use borrow.Author.Rules.{rules}
 use Rattle.note.proofs.velocity_of.Goals as goal
 
 pub returns-then-not-is_finite_f32 : goal.returns-then-not-is_finite_f32

@@ -1,11 +1,10 @@
 use Prim.Native.Nat.{◌-◌, ◌≤◌}
 use mathlib.Core.Path.{◌∙◌, sym, ap, refl}
 use native.Mathlib.Omega.{arith}
-use borrow.Author.Rules.{rules}
 use lib.ListN.{take}
 use Rattle.session.specs.Lists.{any}
-use Rattle.session.proofs.Walks.{long, used-below}
-use Rattle.session.proofs.Search.{Searched, search-found, search-next, search-over}
+use Rattle.session.proofs.Walks.{used-below}
+use Rattle.session.proofs.Search.{search-found, search-next, search-over}
 use Rattle.players.specs.Seats.{is_over}
 use Rattle.players.proofs.any_over.Goals as goal
 

@@ -1,4 +1,3 @@
-use borrow.Author.Rules.{rules}
 use Rattle.players.specs.Seats.{no_player}
 use Rattle.players.proofs.no_player.Goals as goal
 

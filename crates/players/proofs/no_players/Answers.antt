@@ -1,5 +1,4 @@
 use Rattle.players.specs.Seats.{no_players}
-use borrow.Author.Rules.{rules}
 use Rattle.players.proofs.no_players.Goals as goal
 
 pub returns : goal.returns

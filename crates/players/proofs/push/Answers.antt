@@ -1,6 +1,5 @@
 use mathlib.Core.Path.{refl}
 use Rattle.players.proofs.Kept.{seated-ok}
-use borrow.Author.Rules.{rules}
 use Rattle.players.proofs.push.Goals as goal
 
 pub returns : goal.returns

@@ -1,14 +1,11 @@
-use Prim.Native.Nat.{◌-◌, ◌≤◌}
-use mathlib.Core.Logic.{⊎_elim}
-use mathlib.Core.Path.{◌≡◌, sym, ap, subst}
+use Prim.Native.Nat.{◌-◌}
+use mathlib.Core.Path.{sym, ap, subst}
 use native.Mathlib.Omega.{arith}
-use borrow.Author.Rules.{rules}
-use lib.ListN.{length}
 use Rattle.players.specs.declared.Players.{Players}
 use Rattle.players.specs.declared.Reaped.{Reaped}
 use Rattle.players.specs.Seats.{PlayersOk}
 use Rattle.players.proofs.Kept.{reaped-ok}
-use Rattle.players.proofs.Places.{Reaping, reaping-none, reaping-out, reaping-on, reaping-stay, reaped-done}
+use Rattle.players.proofs.Places.{reaping-none, reaping-out, reaping-on, reaping-stay, reaped-done}
 use Rattle.players.proofs.reap.Goals as goal
 use Rattle.players.proofs.reap.Goals.{else-j-at, then-j-at}
 

@@ -1,12 +1,10 @@
-use Prim.Native.Nat.{◌-◌, ◌≤◌}
-use mathlib.Core.Logic.{⊎_elim}
-use mathlib.Core.Path.{◌≡◌, ◌∙◌, refl, sym, subst}
+use Prim.Native.Nat.{◌-◌}
+use mathlib.Core.Path.{◌∙◌, refl, sym, subst}
 use native.Mathlib.Omega.{arith}
-use borrow.Author.Rules.{rules}
 use Rattle.players.specs.declared.Players.{Players}
-use Rattle.players.specs.Seats.{PlayersOk, retuned, retuned_all}
+use Rattle.players.specs.Seats.{PlayersOk, retuned_all}
 use Rattle.players.proofs.Kept.{retuned-all-ok}
-use Rattle.players.proofs.Places.{done_to, pitch-moves, pitch-stays, walk-done}
+use Rattle.players.proofs.Places.{pitch-moves, pitch-stays, walk-done}
 use Rattle.players.proofs.retune.Goals as goal
 use Rattle.players.proofs.retune.Goals.{else-cold-p, then-cold-p}
 

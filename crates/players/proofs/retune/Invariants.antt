@@ -1,12 +1,7 @@
 use Prim.Native.Nat.{◌-◌, ◌≤◌}
-use mathlib.Core.Logic.{⊎_elim}
-use mathlib.Core.Path.{◌≡◌, ◌∙◌, refl, sym, subst}
-use native.Mathlib.Omega.{arith}
-use borrow.Author.Rules.{rules}
-use Rattle.players.specs.declared.Players.{Players}
-use Rattle.players.specs.Seats.{PlayersOk, retuned, retuned_all}
-use Rattle.players.proofs.Kept.{retuned-all-ok}
-use Rattle.players.proofs.Places.{done_to, pitch-moves, pitch-stays, walk-done}
+use mathlib.Core.Path.{◌≡◌}
+use Rattle.players.specs.Seats.{retuned}
+use Rattle.players.proofs.Places.{done_to}
 use Rattle.players.proofs.retune.Given as goal
 
 abbrev pub invariant-loop-i : goal.invariant-loop-i

@@ -1,11 +1,7 @@
-use Prim.Native.Nat.{◌-◌, ◌≤◌}
-use mathlib.Core.Path.{◌≡◌}
+use Prim.Native.Nat.{◌-◌}
 use native.Mathlib.Omega.{arith}
-use borrow.Author.Rules.{rules}
-use lib.ListN.{length, take}
-use Rattle.session.proofs.Walks.{long, used-below}
-use Rattle.players.specs.Seats.{slot_numbers}
-use Rattle.players.proofs.Places.{Listed, listed-none, listed_more, slots-step, slots-done}
+use Rattle.session.proofs.Walks.{used-below}
+use Rattle.players.proofs.Places.{listed-none, listed_more, slots-step, slots-done}
 use Rattle.players.proofs.slots_of.Goals as goal
 
 pub loop-i-init : goal.loop-i-init

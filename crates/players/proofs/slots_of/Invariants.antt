@@ -1,11 +1,8 @@
 use Prim.Native.Nat.{◌-◌, ◌≤◌}
 use mathlib.Core.Path.{◌≡◌}
-use native.Mathlib.Omega.{arith}
-use borrow.Author.Rules.{rules}
 use lib.ListN.{length, take}
-use Rattle.session.proofs.Walks.{long, used-below}
 use Rattle.players.specs.Seats.{slot_numbers}
-use Rattle.players.proofs.Places.{Listed, listed-none, listed_more, slots-step, slots-done}
+use Rattle.players.proofs.Places.{Listed}
 use Rattle.players.proofs.slots_of.Given as goal
 
 abbrev pub invariant-loop-i : goal.invariant-loop-i

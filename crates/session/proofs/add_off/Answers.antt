@@ -1,5 +1,5 @@
 use Rattle.session.specs.Offs.{add_off}
-use Rattle.std.proofs.Common.{rules, le-ltb, lt-ltb}
+use Rattle.std.proofs.Common.{le-ltb, lt-ltb}
 use Rattle.session.proofs.add_off.Goals as goal
 
 pub returns-then-n-ge32 : goal.returns-then-n-ge32

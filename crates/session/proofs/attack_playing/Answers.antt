@@ -1,6 +1,6 @@
 use Rattle.std.proofs.Common.{◌-◌, ◌≤◌, take, sym, refl, ap, ◌∙◌, arith}
-use Rattle.session.proofs.Search.{Searched, search-found, search-next, search-over}
-use Rattle.session.proofs.Walks.{long, used-below}
+use Rattle.session.proofs.Search.{search-found, search-next, search-over}
+use Rattle.session.proofs.Walks.{used-below}
 use Rattle.session.specs.Lists.{any}
 use Rattle.session.specs.Records.{in_window}
 use Rattle.session.specs.Tests.{attack_playing}

@@ -1,9 +1,7 @@
-use Rattle.std.proofs.Common.{◌-◌, ◌≤◌, take, sym, refl, ap, ◌∙◌, arith}
-use Rattle.session.proofs.Search.{Searched, search-found, search-next, search-over}
-use Rattle.session.proofs.Walks.{long, used-below}
+use Rattle.std.proofs.Common.{◌-◌, ◌≤◌, take}
+use Rattle.session.proofs.Search.{Searched}
 use Rattle.session.specs.Lists.{any}
 use Rattle.session.specs.Records.{in_window}
-use Rattle.session.specs.Tests.{attack_playing}
 use Rattle.session.proofs.attack_playing.Given as goal
 
 abbrev pub invariant-loop-i : goal.invariant-loop-i

@@ -1,8 +1,7 @@
-use Rattle.std.proofs.Common.{◌≡◌, ◌-◌, ◌≤◌, refl, ◌∙◌, ⊎_elim, arith}
-use Rattle.session.proofs.Walks.{done_to, long, used-below, walk-done, walk-hit, walk-miss}
+use Rattle.std.proofs.Common.{◌≡◌, ◌-◌, ◌≤◌}
+use Rattle.session.proofs.Walks.{done_to}
 use Rattle.session.specs.Lists.{change_if}
 use Rattle.session.specs.Records.{choked_by, marked}
-use Rattle.session.specs.Rules.{choke}
 use Rattle.session.proofs.choke_all.Given as goal
 
 abbrev pub invariant-loop-i : goal.invariant-loop-i

@@ -1,8 +1,8 @@
-use Rattle.std.proofs.Common.{◌≡◌, ◌-◌, ◌≤◌, length, take, refl, ap, ◌∙◌, ⊎_elim, arith}
+use Rattle.std.proofs.Common.{◌-◌, refl, ap, ◌∙◌, arith}
 use Rattle.session.proofs.OffTimes.{offs-done, offs-hit, offs-miss}
-use Rattle.session.proofs.Walks.{done_to, long, untouched, used-below, walk-hit, walk-miss}
+use Rattle.session.proofs.Walks.{untouched, used-below, walk-hit, walk-miss}
 use Rattle.session.specs.Lists.{change_if}
-use Rattle.session.specs.Offs.{off_of, off_times, offs_of}
+use Rattle.session.specs.Offs.{off_of}
 use Rattle.session.specs.Records.{collected, waits}
 use Rattle.session.proofs.collect_offs.Goals as goal
 use Rattle.session.proofs.collect_offs.Goals.{else-is_waiting, then-is_waiting}

@@ -1,8 +1,7 @@
-use Rattle.std.proofs.Common.{◌≡◌, ◌-◌, ◌≤◌, length, take, refl, ap, ◌∙◌, ⊎_elim, arith}
-use Rattle.session.proofs.OffTimes.{offs-done, offs-hit, offs-miss}
-use Rattle.session.proofs.Walks.{done_to, long, untouched, used-below, walk-hit, walk-miss}
+use Rattle.std.proofs.Common.{◌≡◌, ◌-◌, ◌≤◌, length, take}
+use Rattle.session.proofs.Walks.{done_to}
 use Rattle.session.specs.Lists.{change_if}
-use Rattle.session.specs.Offs.{off_of, off_times, offs_of}
+use Rattle.session.specs.Offs.{off_times, offs_of}
 use Rattle.session.specs.Records.{collected, waits}
 use Rattle.session.proofs.collect_offs.Given as goal
 

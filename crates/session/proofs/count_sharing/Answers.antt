@@ -1,7 +1,5 @@
-use Rattle.std.proofs.Common.{◌≡◌, ◌-◌, ◌≤◌, length, take, refl, arith}
-use Rattle.session.proofs.Walks.{count-done, count-hit, count-miss, long, used-below}
-use Rattle.session.specs.Lists.{keep}
-use Rattle.session.specs.Rules.{sharing}
+use Rattle.std.proofs.Common.{◌-◌, refl, arith}
+use Rattle.session.proofs.Walks.{count-done, count-hit, count-miss, used-below}
 use Rattle.session.proofs.count_sharing.Goals as goal
 
 pub loop-i-init : goal.loop-i-init

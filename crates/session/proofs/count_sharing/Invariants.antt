@@ -1,5 +1,4 @@
-use Rattle.std.proofs.Common.{◌≡◌, ◌-◌, ◌≤◌, length, take, refl, arith}
-use Rattle.session.proofs.Walks.{count-done, count-hit, count-miss, long, used-below}
+use Rattle.std.proofs.Common.{◌≡◌, ◌-◌, ◌≤◌, length, take}
 use Rattle.session.specs.Lists.{keep}
 use Rattle.session.specs.Rules.{sharing}
 use Rattle.session.proofs.count_sharing.Given as goal

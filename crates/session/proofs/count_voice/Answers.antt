@@ -1,6 +1,5 @@
-use Rattle.std.proofs.Common.{◌≡◌, ◌-◌, ◌≤◌, true, false, length, take, sym, refl, arith, eq-eqb, ne_eqb}
-use Rattle.session.proofs.Walks.{count-done, count-hit, count-miss, long, used-below}
-use Rattle.session.specs.Lists.{keep}
+use Rattle.std.proofs.Common.{◌-◌, true, false, sym, refl, arith, eq-eqb, ne_eqb}
+use Rattle.session.proofs.Walks.{count-done, count-hit, count-miss, used-below}
 use Rattle.session.specs.Records.{of_voice}
 use Rattle.session.proofs.count_voice.Goals as goal
 

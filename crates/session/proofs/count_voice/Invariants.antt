@@ -1,5 +1,4 @@
-use Rattle.std.proofs.Common.{◌≡◌, ◌-◌, ◌≤◌, true, false, length, take, sym, refl, arith, eq-eqb, ne_eqb}
-use Rattle.session.proofs.Walks.{count-done, count-hit, count-miss, long, used-below}
+use Rattle.std.proofs.Common.{◌≡◌, ◌-◌, ◌≤◌, length, take}
 use Rattle.session.specs.Lists.{keep}
 use Rattle.session.specs.Records.{of_voice}
 use Rattle.session.proofs.count_voice.Given as goal

@@ -1,6 +1,5 @@
-use Rattle.session.proofs.Walks.{long}
 use Rattle.session.proofs.Yield.{oldest-none, oldest-one}
-use Rattle.std.proofs.Common.{sym, ◌∙◌, rules}
+use Rattle.std.proofs.Common.{sym, ◌∙◌}
 use Rattle.session.proofs.end_oldest.Goals as goal
 
 pub returns-in-Nobody : goal.returns-in-Nobody

@@ -1,7 +1,5 @@
 use Rattle.session.proofs.Relist.{enter-full, enter-room}
-use Rattle.session.proofs.Walks.{long}
 use Rattle.session.specs.Records.{entered}
-use Rattle.std.proofs.Common.{rules}
 use Rattle.session.proofs.enter_record.Goals as goal
 
 pub returns-then-n-ge512 : goal.returns-then-n-ge512

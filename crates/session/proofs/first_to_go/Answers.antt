@@ -1,7 +1,5 @@
-use Rattle.std.proofs.Common.{◌≡◌, ◌-◌, ◌≤◌, length, take, refl, arith}
-use Rattle.session.proofs.Walks.{fold_done, fold_step, long, used-below}
-use Rattle.session.specs.Rules.{going_first, look_at, yielding}
-use mathlib.Core.List.{foldl}
+use Rattle.std.proofs.Common.{◌-◌, refl, arith}
+use Rattle.session.proofs.Walks.{fold_done, fold_step, used-below}
 use Rattle.session.specs.declared.Victim.TheVariants.{Nobody}
 use Rattle.session.proofs.first_to_go.Goals as goal
 

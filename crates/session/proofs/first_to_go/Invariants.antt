@@ -1,5 +1,4 @@
-use Rattle.std.proofs.Common.{◌≡◌, ◌-◌, ◌≤◌, length, take, refl, arith}
-use Rattle.session.proofs.Walks.{fold_done, fold_step, long, used-below}
+use Rattle.std.proofs.Common.{◌≡◌, ◌-◌, ◌≤◌, length, take}
 use Rattle.session.specs.Rules.{going_first, look_at, yielding}
 use mathlib.Core.List.{foldl}
 use Rattle.session.specs.declared.Victim.TheVariants.{Nobody}

@@ -1,6 +1,6 @@
 use Rattle.std.proofs.Common.{◌-◌, ◌≤◌, take, sym, ap, ◌∙◌, arith}
-use Rattle.session.proofs.OffTimes.{FoundAt, found_here, found-later, found_none}
-use Rattle.session.proofs.Walks.{long, used-below}
+use Rattle.session.proofs.OffTimes.{found_here, found-later, found_none}
+use Rattle.session.proofs.Walks.{used-below}
 use Rattle.session.specs.Offs.{first_at}
 use Rattle.session.specs.Records.{waits}
 use Rattle.session.proofs.first_waiting.Goals as goal

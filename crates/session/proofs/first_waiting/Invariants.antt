@@ -1,7 +1,5 @@
-use Rattle.std.proofs.Common.{◌-◌, ◌≤◌, take, sym, ap, ◌∙◌, arith}
-use Rattle.session.proofs.OffTimes.{FoundAt, found_here, found-later, found_none}
-use Rattle.session.proofs.Walks.{long, used-below}
-use Rattle.session.specs.Offs.{first_at}
+use Rattle.std.proofs.Common.{◌-◌, ◌≤◌}
+use Rattle.session.proofs.OffTimes.{FoundAt}
 use Rattle.session.specs.Records.{waits}
 use Rattle.session.proofs.first_waiting.Given as goal
 

@@ -1,5 +1,4 @@
-use Rattle.session.proofs.Walks.{long}
-use Rattle.std.proofs.Common.{false, sym, arith, rules}
+use Rattle.std.proofs.Common.{false, sym, arith}
 use lib.ListN.{get_or-eq_default}
 use Rattle.session.proofs.flag_of.Goals as goal
 

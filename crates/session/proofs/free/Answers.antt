@@ -1,7 +1,7 @@
-use Rattle.std.proofs.Common.{◌≡◌, ◌-◌, ◌≤◌, not, length, refl, ap, arith, eq-eqb, ne_eqb}
-use Rattle.session.proofs.Packing.{Packed, packed_keep, packed_none, packed-skip}
-use Rattle.session.proofs.Voices.{OnlyIds, freed-done, ids_set, others}
-use Rattle.session.proofs.Walks.{long, used-below}
+use Rattle.std.proofs.Common.{◌-◌, not, refl, ap, arith, eq-eqb, ne_eqb}
+use Rattle.session.proofs.Packing.{packed_keep, packed_none, packed-skip}
+use Rattle.session.proofs.Voices.{freed-done, ids_set, others}
+use Rattle.session.proofs.Walks.{used-below}
 use Rattle.session.proofs.free.Goals as goal
 
 pub loop-i-init : goal.loop-i-init

@@ -1,7 +1,6 @@
-use Rattle.std.proofs.Common.{◌≡◌, ◌-◌, ◌≤◌, not, length, refl, ap, arith, eq-eqb, ne_eqb}
-use Rattle.session.proofs.Packing.{Packed, packed_keep, packed_none, packed-skip}
-use Rattle.session.proofs.Voices.{OnlyIds, freed-done, ids_set, others}
-use Rattle.session.proofs.Walks.{long, used-below}
+use Rattle.std.proofs.Common.{◌≡◌, ◌-◌, ◌≤◌, length}
+use Rattle.session.proofs.Packing.{Packed}
+use Rattle.session.proofs.Voices.{OnlyIds, others}
 use Rattle.session.proofs.free.Given as goal
 
 abbrev pub invariant-loop-i : goal.invariant-loop-i

@@ -1,6 +1,6 @@
-use Rattle.std.proofs.Common.{◌-◌, ◌≤◌, eqb, take, refl, ap, ◌∙◌, arith, eq-eqb, ne_eqb}
-use Rattle.session.proofs.Search.{Searched, search-found, search-next, search-over}
-use Rattle.session.proofs.Walks.{long, used-below}
+use Rattle.std.proofs.Common.{◌-◌, ◌≤◌, take, refl, ap, ◌∙◌, arith, eq-eqb, ne_eqb}
+use Rattle.session.proofs.Search.{search-found, search-next, search-over}
+use Rattle.session.proofs.Walks.{used-below}
 use Rattle.session.specs.Lists.{elem}
 use Rattle.session.proofs.has_slot.Goals as goal
 

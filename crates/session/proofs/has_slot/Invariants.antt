@@ -1,6 +1,5 @@
-use Rattle.std.proofs.Common.{◌-◌, ◌≤◌, eqb, take, refl, ap, ◌∙◌, arith, eq-eqb, ne_eqb}
-use Rattle.session.proofs.Search.{Searched, search-found, search-next, search-over}
-use Rattle.session.proofs.Walks.{long, used-below}
+use Rattle.std.proofs.Common.{◌-◌, ◌≤◌, eqb, take}
+use Rattle.session.proofs.Search.{Searched}
 use Rattle.session.specs.Lists.{elem}
 use Rattle.session.proofs.has_slot.Given as goal
 

@@ -1,4 +1,4 @@
-use Rattle.std.proofs.Common.{Bool, ◌||◌, sym, ap, ◌∙◌, rules}
+use Rattle.std.proofs.Common.{Bool, ◌||◌, sym, ap, ◌∙◌}
 use Rattle.session.specs.Rules.{is_limit, is_limited}
 use Rattle.session.proofs.is_limited.Goals as goal
 

@@ -1,5 +1,5 @@
 use Rattle.session.proofs.OffTimes.{waits-other, waits-own}
-use Rattle.std.proofs.Common.{refl, rules}
+use Rattle.std.proofs.Common.{refl}
 use Rattle.session.proofs.is_waiting.Goals as goal
 
 pub returns-then-r-voice : goal.returns-then-r-voice

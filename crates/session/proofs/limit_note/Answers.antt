@@ -1,6 +1,4 @@
-use Rattle.session.proofs.Walks.{long}
 use Rattle.session.proofs.Yield.{note-limited, note-unlimited}
-use Rattle.std.proofs.Common.{rules}
 use Rattle.session.proofs.limit_note.Goals as goal
 
 pub returns-in-Unlimited : goal.returns-in-Unlimited

@@ -1,6 +1,4 @@
-use Rattle.session.proofs.Walks.{long}
 use Rattle.session.proofs.Yield.{region-few, region-many, region-unlimited}
-use Rattle.std.proofs.Common.{rules}
 use Rattle.session.proofs.limit_region.Goals as goal
 
 pub returns-then-count_sharing-most : goal.returns-then-count_sharing-most

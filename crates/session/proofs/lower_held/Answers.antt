@@ -1,5 +1,4 @@
 use Rattle.session.proofs.Voices.{held_none}
-use Rattle.std.proofs.Common.{rules}
 use Rattle.session.proofs.lower_held.Goals as goal
 
 pub returns-then-n-eq0 : goal.returns-then-n-eq0

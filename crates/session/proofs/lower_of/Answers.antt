@@ -1,5 +1,5 @@
 use Rattle.session.specs.Rules.{lower_of}
-use Rattle.std.proofs.Common.{sym, refl, ◌∙◌, rules}
+use Rattle.std.proofs.Common.{sym, refl, ◌∙◌}
 use Rattle.session.proofs.lower_of.Goals as goal
 
 pub returns-in-Nobody : goal.returns-in-Nobody

@@ -1,8 +1,7 @@
-use Rattle.std.proofs.Common.{◌≡◌, ◌-◌, ◌≤◌, refl, ◌∙◌, ⊎_elim, arith}
-use Rattle.session.proofs.Walks.{done_to, long, used-below, walk-done, walk-hit, walk-miss}
+use Rattle.std.proofs.Common.{◌≡◌, ◌-◌, ◌≤◌}
+use Rattle.session.proofs.Walks.{done_to}
 use Rattle.session.specs.Lists.{change_if}
 use Rattle.session.specs.Records.{ended, in_slots}
-use Rattle.session.specs.Rules.{mark_ended}
 use Rattle.session.specs.State.{slot_list}
 use Rattle.session.proofs.mark_ended.Given as goal
 

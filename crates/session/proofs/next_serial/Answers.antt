@@ -1,5 +1,5 @@
 use Rattle.session.specs.State.{with_serial}
-use Rattle.std.proofs.Common.{ap, rules}
+use Rattle.std.proofs.Common.{ap}
 use Rattle.session.proofs.next_serial.Goals as goal
 
 pub returns : goal.returns

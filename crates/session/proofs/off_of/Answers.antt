@@ -1,4 +1,4 @@
-use Rattle.std.proofs.Common.{refl, rules}
+use Rattle.std.proofs.Common.{refl}
 use Rattle.session.proofs.off_of.Goals as goal
 
 pub returns-in-Never : goal.returns-in-Never

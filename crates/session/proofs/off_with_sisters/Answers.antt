@@ -1,5 +1,5 @@
-use Rattle.std.proofs.Common.{◌≡◌, ◌-◌, ◌≤◌, refl, ◌∙◌, ⊎_elim, arith}
-use Rattle.session.proofs.Walks.{done_to, long, used-below, walk-done, walk-hit, walk-miss}
+use Rattle.std.proofs.Common.{◌-◌, refl, ◌∙◌, arith}
+use Rattle.session.proofs.Walks.{used-below, walk-done, walk-hit, walk-miss}
 use Rattle.session.specs.Lists.{change_if}
 use Rattle.session.specs.Records.{is_sister, marked}
 use Rattle.session.specs.Rules.{mark_sisters}

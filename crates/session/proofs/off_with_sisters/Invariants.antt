@@ -1,8 +1,7 @@
-use Rattle.std.proofs.Common.{◌≡◌, ◌-◌, ◌≤◌, refl, ◌∙◌, ⊎_elim, arith}
-use Rattle.session.proofs.Walks.{done_to, long, used-below, walk-done, walk-hit, walk-miss}
+use Rattle.std.proofs.Common.{◌≡◌, ◌-◌, ◌≤◌}
+use Rattle.session.proofs.Walks.{done_to}
 use Rattle.session.specs.Lists.{change_if}
 use Rattle.session.specs.Records.{is_sister, marked}
-use Rattle.session.specs.Rules.{mark_sisters}
 use Rattle.session.proofs.off_with_sisters.Given as goal
 
 abbrev pub invariant-loop-i : goal.invariant-loop-i

@@ -1,7 +1,7 @@
 use Rattle.std.proofs.Common.{◌-◌, ◌≤◌, ltb, take, sym, refl, ap, ◌∙◌, arith, le-ltb, lt-ltb}
 use Rattle.session.proofs.Laws.{over-few}
-use Rattle.session.proofs.Search.{Searched, search-found, search-next, search-over}
-use Rattle.session.proofs.Walks.{long, used-below}
+use Rattle.session.proofs.Search.{search-found, search-next, search-over}
+use Rattle.session.proofs.Walks.{used-below}
 use Rattle.session.specs.Lists.{any}
 use Rattle.session.specs.Records.{of_voice}
 use Rattle.session.specs.Rules.{count_of}

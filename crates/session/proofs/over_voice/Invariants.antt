@@ -1,12 +1,9 @@
-use Rattle.std.proofs.Common.{◌-◌, ◌≤◌, ltb, take, sym, refl, ap, ◌∙◌, arith, le-ltb, lt-ltb}
-use Rattle.session.proofs.Laws.{over-few}
-use Rattle.session.proofs.Search.{Searched, search-found, search-next, search-over}
-use Rattle.session.proofs.Walks.{long, used-below}
+use Rattle.std.proofs.Common.{◌-◌, ◌≤◌, ltb, take}
+use Rattle.session.proofs.Search.{Searched}
 use Rattle.session.specs.Lists.{any}
 use Rattle.session.specs.Records.{of_voice}
 use Rattle.session.specs.Rules.{count_of}
 use Rattle.session.specs.State.{view}
-use Rattle.session.specs.Tests.{over_voice}
 use Rattle.session.proofs.over_voice.Given as goal
 
 abbrev pub invariant-loop-i : goal.invariant-loop-i

@@ -1,5 +1,5 @@
 use Rattle.session.specs.State.{with_held}
-use Rattle.std.proofs.Common.{ap, rules}
+use Rattle.std.proofs.Common.{ap}
 use Rattle.session.proofs.raise_held.Goals as goal
 
 pub returns : goal.returns

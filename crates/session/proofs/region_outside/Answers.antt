@@ -1,6 +1,6 @@
 use Rattle.std.proofs.Common.{◌-◌, ◌≤◌, leb, take, refl, ap, ◌∙◌, arith, le-leb}
-use Rattle.session.proofs.Search.{Searched, search-found, search-next, search-over}
-use Rattle.session.proofs.Walks.{long, used-below}
+use Rattle.session.proofs.Search.{search-found, search-next, search-over}
+use Rattle.session.proofs.Walks.{used-below}
 use Rattle.session.specs.Lists.{any}
 use Rattle.session.specs.Tests.{region_outside}
 use borrow.Author.Tests.{lt-leb}

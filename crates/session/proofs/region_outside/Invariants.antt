@@ -1,9 +1,6 @@
-use Rattle.std.proofs.Common.{◌-◌, ◌≤◌, leb, take, refl, ap, ◌∙◌, arith, le-leb}
-use Rattle.session.proofs.Search.{Searched, search-found, search-next, search-over}
-use Rattle.session.proofs.Walks.{long, used-below}
+use Rattle.std.proofs.Common.{◌-◌, ◌≤◌, leb, take}
+use Rattle.session.proofs.Search.{Searched}
 use Rattle.session.specs.Lists.{any}
-use Rattle.session.specs.Tests.{region_outside}
-use borrow.Author.Tests.{lt-leb}
 use Rattle.session.proofs.region_outside.Given as goal
 
 abbrev pub invariant-loop-i : goal.invariant-loop-i

@@ -1,6 +1,6 @@
-use Rattle.std.proofs.Common.{◌≡◌, ◌-◌, ◌≤◌, length, refl, arith}
-use Rattle.session.proofs.Packing.{Only, Packed, is-out, not-gone, only_set, packed_keep, packed_none, packed-skip, removal-done}
-use Rattle.session.proofs.Walks.{long, used-below}
+use Rattle.std.proofs.Common.{◌-◌, refl, arith}
+use Rattle.session.proofs.Packing.{is-out, not-gone, only_set, packed_keep, packed_none, packed-skip, removal-done}
+use Rattle.session.proofs.Walks.{used-below}
 use Rattle.session.specs.Removal.{stays}
 use Rattle.session.proofs.remove.Goals as goal
 

@@ -1,4 +1,4 @@
-use Rattle.std.proofs.Common.{◌<◌, refl, mod-lt, arith, rules, eq-eqb, ne_eqb}
+use Rattle.std.proofs.Common.{◌<◌, refl, mod-lt, arith, eq-eqb, ne_eqb}
 use Rattle.session.proofs.seq_hit.Goals as goal
 
 pub returns-then-length-eq0 : goal.returns-then-length-eq0

@@ -1,6 +1,6 @@
 use Rattle.std.proofs.Common.{◌-◌, ◌≤◌, take, refl, ap, ◌∙◌, arith}
-use Rattle.session.proofs.Matching.{Left, left_both, left-differs, left-done, left-none, left_other}
-use Rattle.session.proofs.Walks.{long, used-below}
+use Rattle.session.proofs.Matching.{left_both, left-differs, left-done, left-none, left_other}
+use Rattle.session.proofs.Walks.{used-below}
 use Rattle.session.specs.Rules.{slots_of}
 use Rattle.session.specs.State.{view}
 use Rattle.session.specs.Tests.{same_list, slots_in_order}

@@ -1,6 +1,6 @@
 use Rattle.std.proofs.Common.{◌+◌, ◌-◌, ◌≤◌, get_or, take, drop, sym, refl, ap, ◌∙◌, arith}
-use Rattle.session.proofs.Matching.{TwiceLeft, twice_found, twice-next, twice-over}
-use Rattle.session.proofs.Walks.{long, used-below}
+use Rattle.session.proofs.Matching.{twice_found, twice-next, twice-over}
+use Rattle.session.proofs.Walks.{used-below}
 use Rattle.session.specs.Lists.{elem, twice}
 use Rattle.session.proofs.stands_twice.Goals as goal
 

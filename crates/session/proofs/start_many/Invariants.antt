@@ -1,14 +1,9 @@
-use Rattle.std.proofs.Common.{◌≡◌, ◌-◌, ◌≤◌, List, length, get_or, take, sym, refl, ap, ◌∙◌, ⊎_elim, arith, rules}
-use Rattle.session.proofs.Started.{unlimited-marks, start-enters, start-full, start-roomless, walk-choked, turn-joins, turn-drops, turn-size, turns-done}
-use Rattle.session.proofs.Walks.{done_to, fold_done, fold_step, long, used-below, walk-hit, walk-miss}
-use Rattle.session.proofs.Yield.{few-left, length-choke, length-note, marks-in-turn}
+use Rattle.std.proofs.Common.{◌≡◌, ◌-◌, ◌≤◌, length, take}
+use Rattle.session.proofs.Walks.{done_to}
 use Rattle.session.specs.Lists.{change_if}
 use Rattle.session.specs.Records.{choked_by, marked}
-use Rattle.session.specs.Rules.{choke, after_note_polyphony, start_marks}
-use Rattle.session.specs.State.{view, relist, no_start, Starting, start_next}
+use Rattle.session.specs.State.{Starting, start_next}
 use mathlib.Core.List.{foldl}
-use Rattle.session.specs.declared.PlayerRecord.{PlayerRecord}
-use Rattle.session.specs.declared.Start.{Start}
 use Rattle.session.proofs.start_many.Given as goal
 
 abbrev pub invariant-loop-k : goal.invariant-loop-k

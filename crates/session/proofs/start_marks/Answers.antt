@@ -1,4 +1,3 @@
-use Rattle.session.proofs.Walks.{long}
 use Rattle.session.proofs.Yield.{few-left, length-choke, length-note, marks-in-turn}
 use Rattle.session.specs.Rules.{choke, after_note_polyphony}
 use Rattle.session.proofs.start_marks.Goals as goal

@@ -1,6 +1,4 @@
 use Rattle.session.proofs.Voices.{counted-on, no-counter}
-use Rattle.session.proofs.Walks.{long}
-use Rattle.std.proofs.Common.{rules}
 use Rattle.session.proofs.step_sequence.Goals as goal
 
 pub returns-then-region-ge256 : goal.returns-then-region-ge256

@@ -1,6 +1,6 @@
 use Rattle.std.proofs.Common.{◌-◌, ◌≤◌, not, take, sym, refl, ap, ◌∙◌, arith}
-use Rattle.session.proofs.Search.{Searched, search-found, search-next, search-over}
-use Rattle.session.proofs.Walks.{long, used-below}
+use Rattle.session.proofs.Search.{search-found, search-next, search-over}
+use Rattle.session.proofs.Walks.{used-below}
 use Rattle.session.specs.Lists.{any, elem}
 use Rattle.session.specs.State.{live_ids}
 use Rattle.session.specs.Tests.{stray_record}

@@ -1,9 +1,7 @@
-use Rattle.std.proofs.Common.{◌-◌, ◌≤◌, not, take, sym, refl, ap, ◌∙◌, arith}
-use Rattle.session.proofs.Search.{Searched, search-found, search-next, search-over}
-use Rattle.session.proofs.Walks.{long, used-below}
+use Rattle.std.proofs.Common.{◌-◌, ◌≤◌, not, take}
+use Rattle.session.proofs.Search.{Searched}
 use Rattle.session.specs.Lists.{any, elem}
 use Rattle.session.specs.State.{live_ids}
-use Rattle.session.specs.Tests.{stray_record}
 use Rattle.session.proofs.stray_record.Given as goal
 
 abbrev pub invariant-loop-i : goal.invariant-loop-i

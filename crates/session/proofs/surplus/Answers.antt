@@ -1,5 +1,5 @@
 use Rattle.session.proofs.Walks.{surplus-few, surplus-many}
-use Rattle.std.proofs.Common.{arith, rules, eq-eqb}
+use Rattle.std.proofs.Common.{arith, eq-eqb}
 use Rattle.session.proofs.surplus.Goals as goal
 
 pub returns-then-most-eq0 : goal.returns-then-most-eq0

@@ -1,6 +1,6 @@
 use Rattle.std.proofs.Common.{◌≤◌, arith}
 use Rattle.session.proofs.OffTimes.{took-none, took_one}
-use Rattle.session.proofs.Walks.{long, used-below}
+use Rattle.session.proofs.Walks.{used-below}
 use Rattle.session.proofs.take_first_off.Goals as goal
 
 pub returns-then-n-k : goal.returns-then-n-k

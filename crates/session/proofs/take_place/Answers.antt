@@ -1,5 +1,4 @@
 use Rattle.session.proofs.Voices.{place-count, place-next, place-taken}
-use Rattle.session.proofs.Walks.{long}
 use Rattle.std.proofs.Common.{arith}
 use Rattle.session.proofs.take_place.Goals as goal
 

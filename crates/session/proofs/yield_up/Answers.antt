@@ -1,6 +1,5 @@
-use Rattle.session.proofs.Walks.{long}
-use Rattle.session.proofs.Yield.{Yielded, yield-next, yield-none, yield-over, yield-stop}
-use Rattle.std.proofs.Common.{sym, ◌∙◌, arith, rules}
+use Rattle.session.proofs.Yield.{yield-next, yield-none, yield-over, yield-stop}
+use Rattle.std.proofs.Common.{sym, ◌∙◌, arith}
 use Rattle.session.proofs.yield_up.Goals as goal
 
 pub loop-left-init : goal.loop-left-init

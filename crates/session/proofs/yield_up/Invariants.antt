@@ -1,6 +1,4 @@
-use Rattle.session.proofs.Walks.{long}
-use Rattle.session.proofs.Yield.{Yielded, yield-next, yield-none, yield-over, yield-stop}
-use Rattle.std.proofs.Common.{sym, ◌∙◌, arith, rules}
+use Rattle.session.proofs.Yield.{Yielded}
 use Rattle.session.proofs.yield_up.Given as goal
 
 abbrev pub invariant-loop-left : goal.invariant-loop-left

@@ -1,4 +1,3 @@
-use Rattle.std.proofs.Common.{rules}
 use Rattle.session.proofs.yields.Goals as goal
 
 pub returns-in-Note : goal.returns-in-Note

@@ -3,8 +3,6 @@ use mathlib.Core.Path.{◌≡◌, refl, sym, ap, ◌∙◌}
 use mathlib.Core.Bool.{true}
 use lib.ListN.{length}
 use borrow.Author.Tests.{not-true, not-false}
-use borrow.Author.Rules.{rules}
-use Rattle.session.proofs.Walks.{long}
 use Rattle.block.specs.Inputs.{Lent}
 use Rattle.voice.specs.declared.Called.{Called}
 use Rattle.causes.specs.Tests.{parts_fit, lengths_of, state_fits, in_time}

@@ -2,7 +2,6 @@ use mathlib.Core.Path.{sym, ◌∙◌}
 use borrow.Author.Tests.{not-true, not-false}
 use Rattle.voice.proofs.Refusals.{close-8, close-done}
 use Rattle.voice.proofs.Numbers.{close-promise}
-use borrow.Author.Rules.{rules}
 use Rattle.voice.proofs.close.Goals as goal
 
 pub returns-then-not-well_formed : goal.returns-then-not-well_formed

@@ -2,7 +2,6 @@ use mathlib.Core.Path.{ap}
 use mathlib.Core.Bool.{not}
 use borrow.Author.Tests.{eq-eqb, ne_eqb, not-true, not-false}
 use Rattle.voice.specs.Calls.{is_finished}
-use borrow.Author.Rules.{rules}
 use Rattle.voice.proofs.finished.Goals as goal
 
 pub returns-then-not-v : goal.returns-then-not-v

@@ -1,4 +1,3 @@
-use borrow.Author.Rules.{rules}
 use Rattle.voice.proofs.fresh_voice.Goals as goal
 
 pub returns : goal.returns

@@ -3,7 +3,6 @@ use borrow.Author.Tests.{not-true, not-false}
 use Rattle.voice.proofs.Refusals.{ask-8, ask-done}
 use Rattle.voice.proofs.Numbers.{ask-promise}
 use Rattle.voice.specs.Calls.{Program}
-use borrow.Author.Rules.{rules}
 use Rattle.voice.proofs.is_finished.Goals as goal
 
 pub returns-then-not-state_fits : goal.returns-then-not-state_fits

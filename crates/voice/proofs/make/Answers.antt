@@ -2,7 +2,6 @@ use mathlib.Core.Path.{sym, ◌∙◌}
 use borrow.Author.Tests.{not-true, not-false}
 use Rattle.voice.proofs.Refusals.{make-5, make-6, make-9, make-done}
 use Rattle.voice.proofs.Numbers.{make-promise}
-use borrow.Author.Rules.{rules}
 use Rattle.voice.proofs.make.Goals as goal
 
 pub returns-then-not-rate_fits : goal.returns-then-not-rate_fits

@@ -1,6 +1,5 @@
 use mathlib.Core.Path.{sym, ap, ◌∙◌}
 use Rattle.voice.specs.Calls.{may_release}
-use borrow.Author.Rules.{rules}
 use Rattle.voice.proofs.may_release.Goals as goal
 
 pub returns-in-Absent : goal.returns-in-Absent

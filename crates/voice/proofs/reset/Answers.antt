@@ -2,7 +2,6 @@ use mathlib.Core.Path.{sym, ◌∙◌}
 use borrow.Author.Tests.{not-true, not-false}
 use Rattle.voice.proofs.Refusals.{reset-8, reset-done}
 use Rattle.voice.proofs.Numbers.{reset-promise}
-use borrow.Author.Rules.{rules}
 use Rattle.voice.proofs.reset.Goals as goal
 
 pub returns-then-not-well_formed : goal.returns-then-not-well_formed

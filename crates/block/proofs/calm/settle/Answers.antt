@@ -1,4 +1,3 @@
-use borrow.Author.Rules.{rules}
 use mathlib.Core.Path.{ap, ◌∙◌}
 use Rattle.session.specs.declared.Session.{Session}
 use Rattle.gates.specs.Off.{reaped_both}

@@ -1,4 +1,3 @@
-use borrow.Author.Rules.{rules}
 use Rattle.block.proofs.Calming.{tune-none, tune-some}
 use Rattle.block.proofs.calm.tune_of.Goals as goal
 

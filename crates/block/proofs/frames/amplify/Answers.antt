@@ -1,7 +1,7 @@
-use Rattle.block.proofs.Framing.{times_to, times-step, times-done}
-use lib.ListN.{length, length-set}
+use Rattle.block.proofs.Framing.{times-step, times-done}
+use lib.ListN.{length-set}
 use native.Mathlib.Omega.{arith}
-use mathlib.Core.Path.{◌≡◌, refl, ◌∙◌}
+use mathlib.Core.Path.{refl, ◌∙◌}
 use Prim.Native.Nat.{◌-◌}
 use Rattle.block.proofs.frames.amplify.Goals as goal
 

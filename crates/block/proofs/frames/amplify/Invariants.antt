@@ -1,7 +1,6 @@
-use Rattle.block.proofs.Framing.{times_to, times-step, times-done}
-use lib.ListN.{length, length-set}
-use native.Mathlib.Omega.{arith}
-use mathlib.Core.Path.{◌≡◌, refl, ◌∙◌}
+use Rattle.block.proofs.Framing.{times_to}
+use lib.ListN.{length}
+use mathlib.Core.Path.{◌≡◌}
 use Prim.Native.Nat.{◌-◌}
 use Rattle.block.proofs.frames.amplify.Given as goal
 

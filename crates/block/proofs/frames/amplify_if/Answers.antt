@@ -1,5 +1,4 @@
 use borrow.Author.Tests.{not-true, not-false}
-use borrow.Author.Rules.{rules}
 use Rattle.block.proofs.frames.amplify_if.Goals as goal
 
 pub returns-then-not-on : goal.returns-then-not-on

@@ -1,10 +1,10 @@
 use Rattle.block.proofs.Framing.{clear-done}
-use Rattle.session.proofs.Walks.{on_first, on_first-step}
+use Rattle.session.proofs.Walks.{on_first-step}
 use Rattle.exact.specs.Single.{f0}
 use lib.Ieee.{Float, nan}
-use lib.ListN.{length, set, length-set}
+use lib.ListN.{set, length-set}
 use native.Mathlib.Omega.{arith}
-use mathlib.Core.Path.{◌≡◌, refl, ap, ◌∙◌}
+use mathlib.Core.Path.{refl, ap, ◌∙◌}
 use Prim.Native.Nat.{◌-◌}
 use Rattle.block.proofs.frames.clear.Goals as goal
 

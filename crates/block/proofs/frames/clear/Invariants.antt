@@ -1,10 +1,8 @@
-use Rattle.block.proofs.Framing.{clear-done}
-use Rattle.session.proofs.Walks.{on_first, on_first-step}
+use Rattle.session.proofs.Walks.{on_first}
 use Rattle.exact.specs.Single.{f0}
-use lib.Ieee.{Float, nan}
-use lib.ListN.{length, set, length-set}
-use native.Mathlib.Omega.{arith}
-use mathlib.Core.Path.{◌≡◌, refl, ap, ◌∙◌}
+use lib.Ieee.{Float}
+use lib.ListN.{length}
+use mathlib.Core.Path.{◌≡◌}
 use Prim.Native.Nat.{◌-◌}
 use Rattle.block.proofs.frames.clear.Given as goal
 

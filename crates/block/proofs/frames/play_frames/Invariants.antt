@@ -1,13 +1,6 @@
-use Rattle.block.proofs.Framing.{Reached, reach-first, reach-next, reach-last, reach-end, beyond, strike-there, gate-there, time-fits}
-use Rattle.block.proofs.Parts.{under, on_stage, same-under, same-stage, part_length, Heard, heard-as, heard-none, heard-settled, heard-calm, Marked, marked-as, marked-some, marked-none, Acted, acted-as, acted-still, acted-edge, acted-scene}
-use Rattle.block.specs.Render.{Scene}
-use Rattle.block.specs.Inputs.{Cues}
-use Rattle.block.specs.declared.Playing.{Playing}
-use mathlib.Core.Logic.{⊎_elim}
-use mathlib.Core.Path.{◌∙◌, refl, sym}
-use native.Mathlib.Omega.{arith}
-use borrow.Author.Rules.{rules}
-use Prim.Native.Nat.{ℕ, ◌-◌, ◌+◌}
+use Rattle.block.proofs.Framing.{Reached}
+use Rattle.block.proofs.Parts.{under, on_stage}
+use Prim.Native.Nat.{◌-◌, ◌+◌}
 use Rattle.block.proofs.frames.play_frames.Given as goal
 
 abbrev pub invariant-loop-from : goal.invariant-loop-from

@@ -1,7 +1,6 @@
 use lib.Ieee.{of_bits, neg}
 use Rattle.block.specs.Inputs.{bend_of}
 use mathlib.Core.Path.{◌∙◌, sym}
-use borrow.Author.Rules.{rules}
 use Rattle.block.proofs.inputs.bend_of.Goals as goal
 
 pub returns-then-is_finite_f32 : goal.returns-then-is_finite_f32

@@ -3,10 +3,9 @@ use native.Mathlib.Omega.{arith}
 use mathlib.Core.Path.{◌∙◌, ap, sym}
 use lib.ListN.{take}
 use borrow.Author.Tests.{eq-eqb, ne_eqb}
-use borrow.Author.Rules.{rules}
 use Rattle.session.specs.Offs.{first_at}
-use Rattle.session.proofs.Walks.{long, used-below}
-use Rattle.session.proofs.OffTimes.{FoundAt, found_here, found-later, found_none}
+use Rattle.session.proofs.Walks.{used-below}
+use Rattle.session.proofs.OffTimes.{found_here, found-later, found_none}
 use Prim.Native.Nat.{◌-◌, ◌≤◌}
 use Rattle.block.proofs.inputs.first_off.Goals as goal
 

@@ -2,7 +2,6 @@ use Rattle.block.specs.Inputs.{gate_at}
 use Rattle.exact.specs.Single.{f0}
 use lib.Ieee.{lt}
 use mathlib.Core.Path.{ap}
-use borrow.Author.Rules.{rules}
 use Rattle.block.proofs.inputs.gate_at.Goals as goal
 
 pub returns : goal.returns

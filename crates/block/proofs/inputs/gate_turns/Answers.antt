@@ -1,5 +1,4 @@
 use Rattle.block.proofs.Firsts.{same_turn}
-use borrow.Author.Rules.{rules}
 use Rattle.block.proofs.inputs.gate_turns.Goals as goal
 
 pub returns-else-g : goal.returns-else-g

@@ -1,6 +1,5 @@
 use Rattle.block.proofs.Firsts.{first-event}
 use native.Mathlib.Omega.{arith}
-use borrow.Author.Rules.{rules}
 use Rattle.block.proofs.inputs.next_event.Goals as goal
 
 pub returns-then-off-edge : goal.returns-then-off-edge

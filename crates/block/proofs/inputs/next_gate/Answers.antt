@@ -1,11 +1,10 @@
 use Rattle.block.proofs.Firsts.{first-here, first-later, first-none}
-use Rattle.block.specs.Next.{next_gate, first_from}
+use Rattle.block.specs.Next.{next_gate}
 use Rattle.block.specs.Block.{turns}
 use Rattle.block.specs.Inputs.{gate_at}
-use borrow.Author.Rules.{rules}
 use native.Mathlib.Omega.{arith}
-use mathlib.Core.Path.{◌≡◌, ◌∙◌, ap, sym, refl}
-use Prim.Native.Nat.{◌-◌, ◌≤◌}
+use mathlib.Core.Path.{◌∙◌, ap, sym, refl}
+use Prim.Native.Nat.{◌-◌}
 use Rattle.block.proofs.inputs.next_gate.Goals as goal
 
 pub loop-i-init : goal.loop-i-init

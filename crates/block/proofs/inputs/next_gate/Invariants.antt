@@ -1,10 +1,7 @@
-use Rattle.block.proofs.Firsts.{first-here, first-later, first-none}
-use Rattle.block.specs.Next.{next_gate, first_from}
+use Rattle.block.specs.Next.{first_from}
 use Rattle.block.specs.Block.{turns}
 use Rattle.block.specs.Inputs.{gate_at}
-use borrow.Author.Rules.{rules}
-use native.Mathlib.Omega.{arith}
-use mathlib.Core.Path.{◌≡◌, ◌∙◌, ap, sym, refl}
+use mathlib.Core.Path.{◌≡◌}
 use Prim.Native.Nat.{◌-◌, ◌≤◌}
 use Rattle.block.proofs.inputs.next_gate.Given as goal
 

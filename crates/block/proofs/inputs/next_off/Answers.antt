@@ -1,11 +1,9 @@
 use native.Mathlib.Nat.{le_antisymm}
 use Rattle.block.proofs.Firsts.{some_to, none_yet, one_more, frame-inside}
 use Rattle.block.specs.Next.{next_off, first_from}
-use Rattle.session.proofs.Walks.{long, used-below}
-use lib.ListN.{length}
-use borrow.Author.Rules.{rules}
+use Rattle.session.proofs.Walks.{used-below}
 use native.Mathlib.Omega.{arith}
-use mathlib.Core.Path.{◌≡◌, ◌∙◌, ap}
+use mathlib.Core.Path.{◌∙◌, ap}
 use Prim.Native.Nat.{◌-◌, ◌≤◌}
 use Rattle.block.proofs.inputs.next_off.Goals as goal
 

@@ -1,6 +1,5 @@
 use Rattle.block.specs.Inputs.{off_frame}
 use native.Mathlib.Omega.{arith}
-use borrow.Author.Rules.{rules}
 use Rattle.block.proofs.inputs.off_frame.Goals as goal
 
 pub returns-then-at-t : goal.returns-then-at-t

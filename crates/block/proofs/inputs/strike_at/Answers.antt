@@ -1,5 +1,4 @@
 use Rattle.block.proofs.Strikes.{strike-is}
-use borrow.Author.Rules.{rules}
 use Rattle.block.proofs.inputs.strike_at.Goals as goal
 
 pub returns : goal.returns

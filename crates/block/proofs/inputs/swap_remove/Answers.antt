@@ -1,6 +1,5 @@
 use Rattle.block.specs.Block.{swap_removed}
 use mathlib.Core.Path.{refl}
-use borrow.Author.Rules.{rules}
 use Rattle.block.proofs.inputs.swap_remove.Goals as goal
 
 pub returns : goal.returns

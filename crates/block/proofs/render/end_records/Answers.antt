@@ -1,5 +1,4 @@
 use borrow.Author.Tests.{eq-eqb, ne_eqb}
-use borrow.Author.Rules.{rules}
 use Rattle.block.proofs.render.end_records.Goals as goal
 
 pub returns-then-ended-eq0 : goal.returns-then-ended-eq0

@@ -1,5 +1,4 @@
 use Rattle.block.proofs.Scenes.{edge-up, edge-down}
-use borrow.Author.Rules.{rules}
 use Rattle.block.proofs.turns.edge.Goals as goal
 
 pub returns-then-g : goal.returns-then-g

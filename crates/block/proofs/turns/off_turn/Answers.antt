@@ -1,6 +1,5 @@
 use Rattle.block.proofs.Scenes.{turn_is, turn-ok}
 use mathlib.Core.Path.{refl}
-use borrow.Author.Rules.{rules}
 use Rattle.block.proofs.turns.off_turn.Goals as goal
 
 pub returns : goal.returns

@@ -1,12 +1,10 @@
 use Rattle.events.specs.Voice.{Kit}
 use Rattle.block.proofs.Scenes.{turn-count, turns_more, turns-over}
-use Rattle.block.specs.Ready.{PlayingOk}
-use Rattle.block.specs.Block.{off_list, falls_on, off_turns}
+use Rattle.block.specs.Block.{off_turns}
 use Rattle.block.specs.declared.Playing.{Playing}
-use Rattle.session.specs.Offs.{first_at}
 use native.Mathlib.Omega.{arith}
 use Prim.Native.Nat.{◌-◌}
-use mathlib.Core.Path.{◌≡◌, refl, sym, ap, ◌∙◌}
+use mathlib.Core.Path.{refl, sym, ap, ◌∙◌}
 use Rattle.block.proofs.turns.off_turns.Goals as goal
 
 pub first_off-j-requires : goal.first_off-j-requires

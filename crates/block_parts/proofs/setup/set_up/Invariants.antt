@@ -1,4 +1,4 @@
-use Rattle.std.proofs.Common.{◌≡◌, ◌-◌, ◌≤◌, length, rules}
+use Rattle.std.proofs.Common.{◌≡◌, ◌-◌, length}
 use Rattle.block_parts.specs.Made.{MadeOk}
 use Rattle.block_parts.proofs.setup.set_up.Given as goal
 

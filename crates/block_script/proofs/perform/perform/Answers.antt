@@ -1,5 +1,4 @@
 use mathlib.Core.Path.{◌∙◌}
-use borrow.Author.Rules.{rules}
 use Rattle.block_script.proofs.perform.perform.Goals as goal
 
 pub shape_of-buf : goal.shape_of-buf

@@ -1,6 +1,4 @@
 use Prim.Native.Nat.{◌-◌, ◌≤◌}
-use native.Mathlib.Omega.{arith}
-use borrow.Author.Rules.{rules}
 use Rattle.cases.proofs.state.with_all.Given as goal
 
 abbrev pub invariant-loop-id : goal.invariant-loop-id

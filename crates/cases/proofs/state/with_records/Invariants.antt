@@ -1,6 +1,4 @@
 use Prim.Native.Nat.{◌-◌, ◌≤◌}
-use native.Mathlib.Omega.{arith}
-use borrow.Author.Rules.{rules}
 use Rattle.cases.proofs.state.with_records.Given as goal
 
 abbrev pub invariant-loop-k : goal.invariant-loop-k

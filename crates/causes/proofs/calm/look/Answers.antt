@@ -1,7 +1,6 @@
 use mathlib.Core.Path.{sym, ap, ◌∙◌}
 use mathlib.Core.Bool.{Bool, not}
 use mathlib.Core.List.{List}
-use borrow.Author.Rules.{rules}
 use borrow.Author.Tests.{not-true, not-false}
 use Rattle.program.proofs.Checks.{every-no, after, final}
 use Rattle.causes.specs.Calm.{look_tests, look_fits}
@@ -42,11 +41,11 @@ returns-then-not-own c = misfits _ c.misfit-then-not-own.ensures _ _ (every-no (
 pub returns : goal.returns
 unfolding look_fits
 returns c = let fit = not-false _ c.if-not-own.false in (
-      after (sym c.rest_fits.ensures ∙ not-false _ c.if-not-rest_fits.false-raw)
-          (after (ap not (sym c.over_players.ensures ∙ c.if-over_players.false))
-          (after (sym c.program_ok.ensures ∙ not-false _ c.if-not-program_ok.false-raw)
-          (after (sym c.in_time.ensures ∙ not-false _ c.if-not-in_time.false-raw)
-          (after (sym c.players_look-own.ensures.0 ∙ fit)
-          (final (own-fits c.args.v.program.regions c.args.v.voice c.args.s c.args.v.players _ _ (c.players_look-own.ensures.1 fit) c.list_look.ensures.0)))))),
-      c.list_look.ensures.1,
-    )
+  after (sym c.rest_fits.ensures ∙ not-false _ c.if-not-rest_fits.false-raw)
+      (after (ap not (sym c.over_players.ensures ∙ c.if-over_players.false))
+      (after (sym c.program_ok.ensures ∙ not-false _ c.if-not-program_ok.false-raw)
+      (after (sym c.in_time.ensures ∙ not-false _ c.if-not-in_time.false-raw)
+      (after (sym c.players_look-own.ensures.0 ∙ fit)
+      (final (own-fits c.args.v.program.regions c.args.v.voice c.args.s c.args.v.players _ _ (c.players_look-own.ensures.1 fit) c.list_look.ensures.0)))))),
+  c.list_look.ensures.1,
+)

@@ -1,4 +1,3 @@
-use borrow.Author.Rules.{rules}
 use Rattle.causes.proofs.check.is_short.Goals as goal
 
 pub returns-then-connected : goal.returns-then-connected

@@ -3,7 +3,6 @@ use mathlib.Core.Bool.{not}
 use borrow.Author.Tests.{eq-eqb, ne_eqb, le-leb, lt-leb}
 use Rattle.program.proofs.Checks.{every-no, after, final}
 use Rattle.causes.specs.Tests.{parts_fit, fit_tests}
-use borrow.Author.Rules.{rules}
 use Rattle.causes.proofs.check.parts_fit.Goals as goal
 
 pub returns-then-frames-eq0 : goal.returns-then-frames-eq0

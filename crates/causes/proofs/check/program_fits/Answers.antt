@@ -5,7 +5,6 @@ use mathlib.Core.List.{[], ◌∷◌}
 use Rattle.program.specs.Bind.{program_ok}
 use Rattle.player_checks.specs.Sound.{samples_fit}
 use Rattle.causes.specs.Tests.{program_fits}
-use borrow.Author.Rules.{rules}
 use Rattle.causes.proofs.check.program_fits.Goals as goal
 
 pub returns-then-not-program_ok : goal.returns-then-not-program_ok

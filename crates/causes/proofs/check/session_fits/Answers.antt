@@ -1,7 +1,6 @@
 use mathlib.Core.Path.{sym, ap, ◌∙◌}
 use mathlib.Core.Bool.{not}
 use borrow.Author.Tests.{not-true, not-false}
-use borrow.Author.Rules.{rules}
 use Rattle.program.proofs.Checks.{every-no, after, final}
 use Rattle.causes.specs.Tests.{session_tests}
 use Rattle.causes.proofs.Tallies.{one-walk}

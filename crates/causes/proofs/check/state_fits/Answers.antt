@@ -1,5 +1,4 @@
 use Rattle.causes.proofs.Formed.{ill-stated, stated}
-use borrow.Author.Rules.{rules}
 use Rattle.causes.proofs.check.state_fits.Goals as goal
 
 pub returns-then-not-well_formed : goal.returns-then-not-well_formed

@@ -4,7 +4,6 @@ use borrow.Author.Tests.{not-true, not-false}
 use Rattle.program.proofs.Checks.{every-no, after, final}
 use Rattle.causes.specs.Tests.{voice_tests}
 use Rattle.causes.proofs.Formed.{own-slots}
-use borrow.Author.Rules.{rules}
 use Rattle.causes.proofs.check.voice_fits.Goals as goal
 
 pub returns-then-over_players : goal.returns-then-over_players

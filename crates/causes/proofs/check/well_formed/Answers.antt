@@ -1,5 +1,4 @@
 use Rattle.causes.proofs.Formed.{ill-formed, well}
-use borrow.Author.Rules.{rules}
 use Rattle.causes.proofs.check.well_formed.Goals as goal
 
 pub returns-then-not-session_fits : goal.returns-then-not-session_fits

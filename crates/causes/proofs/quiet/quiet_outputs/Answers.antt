@@ -1,7 +1,6 @@
 use mathlib.Core.Path.{ap, ◌∙◌}
 use mathlib.Core.List.{List}
 use lib.Ieee.{Float}
-use borrow.Author.Rules.{rules}
 use Rattle.block.specs.Block.{amplified}
 use Rattle.block.proofs.Wholes.{covers-as}
 use Rattle.causes.proofs.quiet.quiet_outputs.Goals as goal

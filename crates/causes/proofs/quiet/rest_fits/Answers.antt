@@ -1,7 +1,6 @@
 use mathlib.Core.Path.{sym, ap, ◌∙◌}
 use mathlib.Core.Bool.{not}
 use borrow.Author.Tests.{not-true, not-false}
-use borrow.Author.Rules.{rules}
 use Rattle.program.proofs.Checks.{every-no, after, final}
 use Rattle.causes.specs.Quiet.{rest_tests}
 use Rattle.causes.proofs.quiet.rest_fits.Goals as goal

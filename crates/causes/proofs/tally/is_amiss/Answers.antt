@@ -1,6 +1,5 @@
-use mathlib.Core.Path.{◌∙◌, sym, ap}
+use mathlib.Core.Path.{sym, ap}
 use mathlib.Core.Bool.{Bool, ◌||◌}
-use borrow.Author.Rules.{rules}
 use borrow.Author.Tests.{le-leb, lt-leb}
 use lib.Dec.{eqb}
 use Rattle.causes.proofs.tally.is_amiss.Goals as goal

@@ -1,14 +1,11 @@
 use Prim.Native.Nat.{◌-◌, ◌≤◌}
-use mathlib.Core.Logic.{⊎_elim}
 use mathlib.Core.Path.{◌∙◌, refl, sym}
 use native.Mathlib.Omega.{arith}
-use lib.ListN.{take}
 use lib.Seq.{length-take-le}
-use Rattle.causes.specs.Others.{IsPlace}
 use Rattle.session.proofs.Matching.{left_both, left-differs, left-done, left-none, left_other}
 use Rattle.session.proofs.Relist.{take-few}
-use Rattle.session.proofs.Walks.{long, used-below}
-use Rattle.causes.proofs.Listing.{Looked, misfits, by-others, by_order, all_fit, all-heard, heard-next, or-true, or-false}
+use Rattle.session.proofs.Walks.{used-below}
+use Rattle.causes.proofs.Listing.{misfits, by-others, by_order, all_fit, all-heard, heard-next, or-true, or-false}
 use Rattle.causes.proofs.Tallies.{zero-at, tally-none, tally-amiss, tally-stray, tally-over, tally-next, tally-done}
 use Rattle.causes.proofs.tally.list_look.Goals as goal
 use Rattle.causes.proofs.tally.list_look.Goals.{else-is_waiting, then-is_waiting}
@@ -123,7 +120,7 @@ loop-i-preserved-then-r-voice c = let h = c.loop-i.invariant.3 in
         left = left_both _ _ _ _ _ _ _ h.left _ c.loop-i-test.true c.if-r-voice.true c.if-m-j.false c.if-own-j.false;
         heard =
             let n = heard-next c.args.voice c.args.s.players _ _ (omega (arith, h.tallied.fits, c.loop-i-test.true)) _ h.heard _ c.is_waiting.ensures in
-            elim c.if-is_waiting.branch [ then-is_waiting z ↦ z.EQ0 ∙ or-true c.loop-i.waits _ z.if-is_waiting.true ∙ n | else-is_waiting z ↦ z.EQ0 ∙ or-false c.loop-i.waits _ z.if-is_waiting.false ∙ n ];
+            elim c.if-is_waiting.branch [ then-is_waiting z ↦ z.waits-is ∙ or-true c.loop-i.waits _ z.if-is_waiting.true ∙ n | else-is_waiting z ↦ z.waits-is ∙ or-false c.loop-i.waits _ z.if-is_waiting.false ∙ n ];
       },
       c.place_after-p.ensures.1,
     )
@@ -144,7 +141,7 @@ loop-i-preserved c = let h = c.loop-i.invariant.3 in
         left = left_other _ _ _ _ _ _ _ h.left _ c.loop-i-test.true c.if-r-voice.false;
         heard =
             let n = heard-next c.args.voice c.args.s.players _ _ (omega (arith, h.tallied.fits, c.loop-i-test.true)) _ h.heard _ c.is_waiting.ensures in
-            elim c.if-is_waiting.branch [ then-is_waiting z ↦ z.EQ0 ∙ or-true c.loop-i.waits _ z.if-is_waiting.true ∙ n | else-is_waiting z ↦ z.EQ0 ∙ or-false c.loop-i.waits _ z.if-is_waiting.false ∙ n ];
+            elim c.if-is_waiting.branch [ then-is_waiting z ↦ z.waits-is ∙ or-true c.loop-i.waits _ z.if-is_waiting.true ∙ n | else-is_waiting z ↦ z.waits-is ∙ or-false c.loop-i.waits _ z.if-is_waiting.false ∙ n ];
       },
       c.place_after-p.ensures.1,
     )

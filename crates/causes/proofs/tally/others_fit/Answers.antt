@@ -1,4 +1,3 @@
-use borrow.Author.Rules.{rules}
 use Rattle.causes.proofs.Tallies.{none-listed}
 use Rattle.causes.proofs.tally.others_fit.Goals as goal
 

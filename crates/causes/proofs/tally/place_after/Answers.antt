@@ -2,7 +2,6 @@ use mathlib.Core.Path.{◌∙◌}
 use native.Mathlib.Omega.{arith}
 use lib.ListN.{take}
 use lib.Seq.{get_or-take, length-take-le}
-use borrow.Author.Rules.{rules}
 use Rattle.causes.proofs.Tallies.{place_found, place-again}
 use Rattle.causes.proofs.tally.place_after.Goals as goal
 

@@ -1,9 +1,7 @@
-use Prim.Native.Nat.{◌-◌, ◌≤◌}
+use Prim.Native.Nat.{◌-◌}
 use native.Mathlib.Omega.{arith}
-use borrow.Author.Rules.{rules}
 use borrow.Author.Tests.{eq-eqb, ne_eqb}
-use lib.Dec.{eqb}
-use Rattle.session.proofs.OffTimes.{FoundAt, found_here, found-later, found_none}
+use Rattle.session.proofs.OffTimes.{found_here, found-later, found_none}
 use Rattle.causes.proofs.tally.place_of.Goals as goal
 
 pub loop-i-init : goal.loop-i-init

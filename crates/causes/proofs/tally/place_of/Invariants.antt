@@ -1,9 +1,6 @@
 use Prim.Native.Nat.{◌-◌, ◌≤◌}
-use native.Mathlib.Omega.{arith}
-use borrow.Author.Rules.{rules}
-use borrow.Author.Tests.{eq-eqb, ne_eqb}
 use lib.Dec.{eqb}
-use Rattle.session.proofs.OffTimes.{FoundAt, found_here, found-later, found_none}
+use Rattle.session.proofs.OffTimes.{FoundAt}
 use Rattle.causes.proofs.tally.place_of.Given as goal
 
 abbrev pub invariant-loop-i : goal.invariant-loop-i

@@ -1,12 +1,10 @@
 use Prim.Native.Nat.{◌-◌, ◌≤◌}
 use mathlib.Core.Path.{◌∙◌, refl, sym}
 use native.Mathlib.Omega.{arith}
-use lib.ListN.{take}
 use lib.Seq.{length-take-le}
-use Rattle.causes.specs.Others.{IsPlace}
 use Rattle.session.proofs.Relist.{take-few}
-use Rattle.session.proofs.Walks.{long, used-below}
-use Rattle.causes.proofs.Tallies.{Tallied, zero-at, tally-none, tally-amiss, tally-stray, tally-over, tally-next, tally-done}
+use Rattle.session.proofs.Walks.{used-below}
+use Rattle.causes.proofs.Tallies.{zero-at, tally-none, tally-amiss, tally-stray, tally-over, tally-next, tally-done}
 use Rattle.causes.proofs.tally.tally_fits.Goals as goal
 
 pub loop-i-init : goal.loop-i-init

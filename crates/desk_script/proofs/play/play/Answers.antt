@@ -1,4 +1,4 @@
-use Rattle.std.proofs.Common.{◌≡◌, ◌-◌, length, ◌∙◌, arith, length-set, rules}
+use Rattle.std.proofs.Common.{◌-◌, ◌∙◌, arith, length-set, rules}
 use Rattle.desk_script.proofs.play.play.Goals as goal
 
 pub shape_of-buf-then-t : goal.shape_of-buf-then-t

@@ -1,4 +1,4 @@
-use Rattle.std.proofs.Common.{refl, rules}
+use Rattle.std.proofs.Common.{refl}
 use Rattle.desk_script.proofs.setup.limit_words.Goals as goal
 
 pub returns-in-Absent : goal.returns-in-Absent

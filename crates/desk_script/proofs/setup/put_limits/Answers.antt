@@ -1,4 +1,3 @@
-use Rattle.std.proofs.Common.{rules}
 use Rattle.desk_script.proofs.Filling.{limits-are}
 use Rattle.desk_script.proofs.setup.put_limits.Goals as goal
 

@@ -1,5 +1,4 @@
 use Rattle.desk_script.specs.Words.{region_words}
-use Rattle.std.proofs.Common.{rules}
 use Rattle.desk_script.proofs.setup.put_region.Goals as goal
 
 pub returns : goal.returns

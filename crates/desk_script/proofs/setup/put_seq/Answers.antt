@@ -1,4 +1,3 @@
-use Rattle.std.proofs.Common.{rules}
 use Rattle.desk_script.proofs.Filling.{seq-are}
 use Rattle.desk_script.proofs.setup.put_seq.Goals as goal
 

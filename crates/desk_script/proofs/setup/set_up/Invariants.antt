@@ -1,4 +1,4 @@
-use Rattle.std.proofs.Common.{◌≡◌, ◌-◌, length, rules}
+use Rattle.std.proofs.Common.{◌≡◌, ◌-◌, length}
 use Rattle.desk_script.specs.Counts.{SetUpOk}
 use Rattle.desk_script.proofs.setup.set_up.Given as goal
 

@@ -1,5 +1,5 @@
-use Rattle.std.proofs.Common.{◌≡◌, true, T, refl, rules}
-use lib.Ieee.{Float, fits, binary32, of_bits, div, is_nan, ne}
+use Rattle.std.proofs.Common.{◌≡◌, true, refl}
+use lib.Ieee.{Float, of_bits, div, is_nan, ne}
 use Rattle.exact.proofs.Narrowing.{no_nan, number, when-nan, to-double}
 use Rattle.exact.proofs.Integrals.{yes}
 use Rattle.elementary.specs.Functions.{sinh_of}

@@ -1,4 +1,4 @@
-use Rattle.std.proofs.Common.{◌≡◌, Bool, true, false, ◌||◌, ap, ◌∙◌, ap₂, inl, inr, le_of_lt, rules}
+use Rattle.std.proofs.Common.{◌≡◌, Bool, true, false, ◌||◌, ap, ◌∙◌, ap₂, le_of_lt}
 use lib.Ieee.{of_bits}
 use Rattle.elementary.specs.Logarithm.{guess_of}
 use Rattle.elementary.proofs.Root.{past_room, tested}

@@ -1,4 +1,3 @@
-use Rattle.std.proofs.Common.{inl, inr, rules}
 use lib.Ieee.{of_bits}
 use Rattle.elementary.specs.Logarithm.{guess_of}
 use Rattle.elementary.proofs.log.guess.Goals as goal

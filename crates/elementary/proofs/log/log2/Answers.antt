@@ -1,5 +1,5 @@
-use Rattle.std.proofs.Common.{◌≡◌, true, T, refl}
-use lib.Ieee.{Float, fits, binary32, of_bits, neg, div, is_nan, ne}
+use Rattle.std.proofs.Common.{◌≡◌, true, refl}
+use lib.Ieee.{Float, of_bits, neg, div, is_nan, ne}
 use lib.Ieee.Fits.{fits_widens}
 use Rattle.exact.proofs.Narrowing.{no_nan, number, when-nan, to-double}
 use Rattle.exact.proofs.Integrals.{yes}

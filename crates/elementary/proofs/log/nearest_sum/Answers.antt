@@ -1,4 +1,4 @@
-use Rattle.std.proofs.Common.{arith, rules}
+use Rattle.std.proofs.Common.{arith}
 use Rattle.elementary.proofs.Log2.{sum_below, sum-above}
 use Rattle.elementary.proofs.log.nearest_sum.Goals as goal
 

@@ -1,4 +1,4 @@
-use Rattle.std.proofs.Common.{◌%◌, ◌<◌, T, mod-lt, lit<, rules}
+use Rattle.std.proofs.Common.{◌%◌, ◌<◌, T, mod-lt, lit<}
 use lib.Ieee.{fits, binary64, to_bits}
 use Rattle.exact.proofs.Value.{plus-no-nan}
 use Rattle.exact.proofs.Integrals.{yes}

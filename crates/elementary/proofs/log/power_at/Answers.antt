@@ -1,4 +1,3 @@
-use Rattle.std.proofs.Common.{rules}
 use Rattle.elementary.proofs.log.power_at.Goals as goal
 
 pub returns : goal.returns

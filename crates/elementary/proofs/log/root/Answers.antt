@@ -1,5 +1,5 @@
 use Rattle.std.proofs.Common.{arith}
-use Rattle.elementary.proofs.Root.{Halves, first, halved, raised-half, found}
+use Rattle.elementary.proofs.Root.{first, halved, raised-half, found}
 use Rattle.elementary.proofs.log.root.Goals as goal
 
 pub loop-w-init : goal.loop-w-init

@@ -1,5 +1,4 @@
-use Rattle.std.proofs.Common.{arith}
-use Rattle.elementary.proofs.Root.{Halves, first, halved, raised-half, found}
+use Rattle.elementary.proofs.Root.{Halves}
 use Rattle.elementary.proofs.log.root.Given as goal
 
 abbrev pub invariant-loop-w : goal.invariant-loop-w

@@ -1,5 +1,5 @@
-use Rattle.std.proofs.Common.{T, ap, ◌∙◌, rules}
-use lib.Ieee.{fits, binary32, of_bits, div}
+use Rattle.std.proofs.Common.{ap, ◌∙◌}
+use lib.Ieee.{of_bits, div}
 use Rattle.exact.specs.Narrow.{narrowed}
 use Rattle.exact.proofs.Narrowing.{no_nan, to-double}
 use Rattle.exact.proofs.Integrals.{yes}

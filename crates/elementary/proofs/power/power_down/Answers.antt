@@ -1,4 +1,4 @@
-use Rattle.std.proofs.Common.{le_trans, le_of_eq, arith, lit≤, rules}
+use Rattle.std.proofs.Common.{le_trans, le_of_eq, arith, lit≤}
 use lib.Ieee.{binary64}
 use lib.Ieee.Positive.{num, den, den_pos}
 use Rattle.exact.proofs.Integrals.{whole_float}

@@ -1,4 +1,4 @@
-use Rattle.std.proofs.Common.{le_trans, arith, lit≤, rules}
+use Rattle.std.proofs.Common.{le_trans, arith, lit≤}
 use lib.Ieee.{binary64}
 use Rattle.exact.proofs.Integrals.{whole_float}
 use Rattle.elementary.specs.Kernel.{power_up}

@@ -1,4 +1,3 @@
-use Rattle.std.proofs.Common.{rules}
 use Rattle.elementary.proofs.Scale.{field-no-nan}
 use Rattle.elementary.proofs.power.scale.Goals as goal
 

@@ -1,5 +1,4 @@
-use Rattle.std.proofs.Common.{T, rules}
-use lib.Ieee.{fits, binary32, binary64, of_bits, div, mul}
+use lib.Ieee.{binary64, of_bits, div, mul}
 use Rattle.exact.specs.Narrow.{narrowed}
 use Rattle.exact.proofs.Value.{plus-no-nan}
 use Rattle.exact.proofs.Narrowing.{to-double}

@@ -1,5 +1,4 @@
 use Rattle.envelope.specs.Envelope.{attack_stage_step}
-use borrow.Author.Rules.{rules}
 use Rattle.envelope.proofs.Env.attack_step.Goals as goal
 
 pub returns-then-v : goal.returns-then-v

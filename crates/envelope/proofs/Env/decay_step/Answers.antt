@@ -1,5 +1,4 @@
 use Rattle.envelope.specs.Envelope.{decay_step}
-use borrow.Author.Rules.{rules}
 use Rattle.envelope.proofs.Env.decay_step.Goals as goal
 
 pub returns-then-v-self : goal.returns-then-v-self

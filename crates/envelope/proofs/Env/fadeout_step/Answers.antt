@@ -1,5 +1,4 @@
 use Rattle.envelope.specs.Envelope.{fadeout_step}
-use borrow.Author.Rules.{rules}
 use Rattle.envelope.proofs.Env.fadeout_step.Goals as goal
 
 pub returns-then-v : goal.returns-then-v

@@ -1,6 +1,5 @@
 use Rattle.envelope.specs.Envelope.{env_next, step_in}
 use mathlib.Core.Path.{ap, sym, ◌∙◌}
-use borrow.Author.Rules.{rules}
 use Rattle.envelope.specs.declared.EgState.{EgState}
 use Rattle.envelope.proofs.Env.next.Goals as goal
 

@@ -1,5 +1,4 @@
-use mathlib.Core.Path.{◌≡◌, sym, ◌∙◌}
-use borrow.Author.Rules.{rules}
+use mathlib.Core.Path.{sym, ◌∙◌}
 use Rattle.envelope.specs.Envelope.{released}
 use Rattle.envelope.proofs.Env.release.Goals as goal
 

@@ -1,4 +1,4 @@
-use mathlib.Core.Path.{◌≡◌, sym, ◌∙◌}
+use mathlib.Core.Path.{sym, ◌∙◌}
 use borrow.Author.Rules.{rules}
 use mir.Facts.{to_z-of_z}
 use mir.Val.{SFits}

@@ -1,4 +1,3 @@
-use borrow.Author.Rules.{rules}
 use Rattle.envelope.specs.Envelope.{release_timed}
 use Rattle.envelope.proofs.Env.set_release_time.Goals as goal
 

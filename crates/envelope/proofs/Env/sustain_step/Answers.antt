@@ -1,5 +1,4 @@
 use Rattle.envelope.specs.Envelope.{sustain_step}
-use borrow.Author.Rules.{rules}
 use Rattle.envelope.proofs.Env.sustain_step.Goals as goal
 
 pub returns-then-self : goal.returns-then-self

@@ -1,5 +1,4 @@
 use Rattle.events.proofs.Starting.{curve-none, curve-some}
-use Rattle.std.proofs.Common.{rules}
 use Rattle.events.proofs.start.curve_for.Goals as goal
 
 pub returns-then-region-eq0 : goal.returns-then-region-eq0

@@ -1,5 +1,4 @@
 use Rattle.events.proofs.Starting.{without-note, with-note}
-use Rattle.std.proofs.Common.{rules}
 use Rattle.events.proofs.start.dispatch_release.Goals as goal
 
 pub returns-in-Absent : goal.returns-in-Absent

@@ -1,4 +1,4 @@
-use Rattle.std.proofs.Common.{rules, le-ltb, lt-ltb}
+use Rattle.std.proofs.Common.{le-ltb, lt-ltb}
 use Rattle.events.proofs.start.drop_one.Goals as goal
 
 pub returns-then-n-lt4294967295 : goal.returns-then-n-lt4294967295

@@ -1,5 +1,5 @@
 use Rattle.events.proofs.Starting.{fired, none-started}
-use Rattle.std.proofs.Common.{refl, rules}
+use Rattle.std.proofs.Common.{refl}
 use Rattle.events.proofs.start.fire_releases.Goals as goal
 
 pub returns-then-chosen-ne0 : goal.returns-then-chosen-ne0

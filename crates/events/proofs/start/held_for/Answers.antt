@@ -1,4 +1,4 @@
-use Rattle.std.proofs.Common.{◌≡◌, ◌-◌, arith, rules}
+use Rattle.std.proofs.Common.{◌≡◌, ◌-◌, arith}
 use Rattle.events.specs.Start.{held_for}
 use Rattle.events.proofs.start.held_for.Goals as goal
 

@@ -1,4 +1,3 @@
-use Rattle.std.proofs.Common.{rules}
 use Rattle.events.proofs.start.limit_in.Goals as goal
 
 pub returns-in-Present : goal.returns-in-Present

@@ -1,4 +1,4 @@
-use Rattle.std.proofs.Common.{sym, subst, arith, rules}
+use Rattle.std.proofs.Common.{sym, subst, arith}
 use Rattle.events.specs.Start.{player_from}
 use Rattle.player.proofs.Starts.{started-sound}
 use Rattle.player.specs.Bounds.{PlayerOk}

@@ -1,4 +1,3 @@
-use Rattle.std.proofs.Common.{rules}
 use Rattle.events.proofs.Split.{both-parts}
 use Rattle.events.proofs.start.start_all.Goals as goal
 

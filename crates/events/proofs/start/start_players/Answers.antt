@@ -1,9 +1,8 @@
-use Rattle.std.proofs.Common.{◌≡◌, ◌-◌, ◌≤◌, length, take, sym, refl, ◌∙◌, subst, ⊎_elim, arith, rules}
-use mathlib.Core.List.{foldl}
+use Rattle.std.proofs.Common.{◌-◌, sym, refl, ◌∙◌, subst, arith}
 use Rattle.players.proofs.Kept.{seated-ok}
 use Rattle.players.specs.Seats.{PlayersOk}
-use Rattle.session.proofs.Walks.{fold_done, fold_step, long, used-below}
-use Rattle.events.proofs.Split.{carried, started_voice, voice-drops, voice-joins, voices-all}
+use Rattle.session.proofs.Walks.{fold_done, fold_step, used-below}
+use Rattle.events.proofs.Split.{carried, voice-drops, voice-joins, voices-all}
 use Rattle.events.specs.Voice.{Kit}
 use Rattle.events.proofs.start.start_players.Goals as goal
 use Rattle.events.proofs.start.start_players.Goals.{else-at-lt32, then-at-lt32}

@@ -1,10 +1,7 @@
-use Rattle.std.proofs.Common.{◌≡◌, ◌-◌, ◌≤◌, length, take, sym, refl, ◌∙◌, subst, ⊎_elim, arith, rules}
+use Rattle.std.proofs.Common.{◌≡◌, ◌-◌, ◌≤◌, length, take}
 use mathlib.Core.List.{foldl}
-use Rattle.players.proofs.Kept.{seated-ok}
 use Rattle.players.specs.Seats.{PlayersOk}
-use Rattle.session.proofs.Walks.{fold_done, fold_step, long, used-below}
-use Rattle.events.proofs.Split.{carried, started_voice, voice-drops, voice-joins, voices-all}
-use Rattle.events.specs.Voice.{Kit}
+use Rattle.events.proofs.Split.{carried, started_voice}
 use Rattle.events.proofs.start.start_players.Given as goal
 
 abbrev pub invariant-loop-i : goal.invariant-loop-i

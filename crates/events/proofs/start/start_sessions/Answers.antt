@@ -1,4 +1,3 @@
-use Rattle.std.proofs.Common.{rules}
 use Rattle.events.proofs.Split.{session-all}
 use Rattle.events.proofs.start.start_sessions.Goals as goal
 

@@ -1,7 +1,7 @@
-use Rattle.std.proofs.Common.{◌≡◌, ◌-◌, ◌≤◌, length, get_or, take, refl, ap, ◌∙◌, arith, length-set, rules}
+use Rattle.std.proofs.Common.{◌-◌, get_or, refl, ap, ◌∙◌, arith, length-set}
 use Rattle.program.specs.declared.region.Region.{Region}
-use Rattle.session.proofs.Walks.{long, used-below}
-use Rattle.events.specs.Start.{start_at, start_of, starts_of}
+use Rattle.session.proofs.Walks.{used-below}
+use Rattle.events.specs.Start.{start_at, start_of}
 use Rattle.events.proofs.Split.{fill_done, fill_step}
 use Rattle.events.proofs.start.starts_of.Goals as goal
 

@@ -1,8 +1,5 @@
-use Rattle.std.proofs.Common.{◌≡◌, ◌-◌, ◌≤◌, length, get_or, take, refl, ap, ◌∙◌, arith, length-set, rules}
-use Rattle.program.specs.declared.region.Region.{Region}
-use Rattle.session.proofs.Walks.{long, used-below}
-use Rattle.events.specs.Start.{start_at, start_of, starts_of}
-use Rattle.events.proofs.Split.{fill_done, fill_step}
+use Rattle.std.proofs.Common.{◌≡◌, ◌-◌, ◌≤◌, length, take}
+use Rattle.events.specs.Start.{starts_of}
 use Rattle.events.proofs.start.starts_of.Given as goal
 
 abbrev pub invariant-loop-i : goal.invariant-loop-i

@@ -1,4 +1,4 @@
-use Rattle.std.proofs.Common.{T, sym, subst, rules}
+use Rattle.std.proofs.Common.{T, sym, subst}
 use lib.Ieee.{of_bits, neg}
 use Rattle.exact.proofs.Saturate.{signed_high, signed-within, signed_low, signed-nan}
 use Rattle.exact.proofs.cast.f32_to_i64.Goals as goal

@@ -1,4 +1,4 @@
-use Rattle.std.proofs.Common.{ap, ◌∙◌, to_z-of_z, rules}
+use Rattle.std.proofs.Common.{ap, ◌∙◌, to_z-of_z}
 use lib.Ieee.{binary32, of_int}
 use Rattle.exact.proofs.cast.i32_to_f32.Goals as goal
 

@@ -1,4 +1,3 @@
-use Rattle.std.proofs.Common.{rules}
 use Rattle.exact.proofs.Leading.{drop-40}
 use Rattle.exact.proofs.cast.nearest_40.Goals as goal
 

@@ -1,4 +1,4 @@
-use Rattle.std.proofs.Common.{◌≡◌, ℕ, pos, sym, refl, ap, ◌∙◌, arith, rules}
+use Rattle.std.proofs.Common.{◌≡◌, ℕ, pos, sym, refl, ap, ◌∙◌, arith}
 use lib.Count.{leading_le}
 use lib.Ieee.{binary32, of_bits, of_int}
 use Rattle.exact.proofs.Narrowing.{small-no-nan}

@@ -1,5 +1,4 @@
-use Rattle.std.proofs.Common.{◌≡◌, T, sym, refl, ◌∙◌, subst, arith}
-use lib.Ieee.{fits, is_nan, binary64}
+use Rattle.std.proofs.Common.{T, sym, subst, arith}
 use Rattle.exact.proofs.Narrowing.{no_nan, low-pattern, high-pattern, small-no-nan, done-plus, done-minus, done-nan}
 use Rattle.exact.proofs.format.narrow.Goals as goal
 

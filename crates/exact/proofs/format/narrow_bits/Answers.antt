@@ -1,7 +1,5 @@
-use Rattle.std.proofs.Common.{◌≡◌, ℕ, ◌+◌, ◌-◌, ◌*◌, ◌/◌, ◌%◌, ◌^◌, ◌<◌, ◌≤◌, sym, refl, ◌∙◌, subst, arith, rules}
+use Rattle.std.proofs.Common.{ℕ, ◌-◌, ◌*◌, ◌/◌, ◌%◌, ◌^◌, ◌≤◌, sym, subst, arith}
 use Rattle.exact.proofs.Narrowing.{narrow-sub, done-normal, done-inf, done-small, done-zero, shifted_one}
-use Rattle.exact.proofs.format.narrow_bits.Reads as reads
-use Rattle.exact.proofs.format.narrow_bits.Lts as lts
 use Rattle.exact.proofs.format.nearest_quotient.Reads as nearest-quotient-reads
 use Rattle.exact.proofs.format.narrow_bits.Goals as goal
 

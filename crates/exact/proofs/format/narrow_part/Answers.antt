@@ -1,5 +1,4 @@
-use Rattle.std.proofs.Common.{T, sym, subst, arith, rules}
-use lib.Ieee.{fits, binary64}
+use Rattle.std.proofs.Common.{T, sym, subst}
 use Rattle.exact.proofs.Narrowing.{no_nan, small-no-nan, done-plus}
 use Rattle.exact.proofs.format.narrow_part.Goals as goal
 

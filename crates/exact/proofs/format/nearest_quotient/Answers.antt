@@ -1,4 +1,4 @@
-use Rattle.std.proofs.Common.{mod-lt, arith, rules}
+use Rattle.std.proofs.Common.{mod-lt, arith}
 use Rattle.exact.proofs.Narrowing.{closest-down, closest-up, closest-tie, half-quotient}
 use Rattle.exact.proofs.format.nearest_quotient.Goals as goal
 

@@ -1,4 +1,4 @@
-use Rattle.std.proofs.Common.{◌<◌, sym, ◌∙◌, arith, rules}
+use Rattle.std.proofs.Common.{◌<◌, arith}
 use Rattle.exact.proofs.Narrowing.{drop-29, narrow-sub, done-normal}
 use Rattle.exact.proofs.format.part_bits.Goals as goal
 

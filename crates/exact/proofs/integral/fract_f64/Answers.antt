@@ -1,4 +1,4 @@
-use Rattle.std.proofs.Common.{T, sym, ap, ◌∙◌, subst, rules}
+use Rattle.std.proofs.Common.{T, sym, ap, ◌∙◌, subst}
 use lib.Ieee.{Float, sub, binary64}
 use Rattle.exact.proofs.Integrals.{fraction-done}
 use Rattle.exact.proofs.integral.fract_f64.Goals as goal

@@ -1,5 +1,5 @@
 use Rattle.std.proofs.Common.{T, sym, subst, arith}
-use lib.Ieee.{fits, binary32, of_bits}
+use lib.Ieee.{binary32, of_bits}
 use Rattle.exact.specs.Integral.{ties_to_away}
 use Rattle.exact.proofs.Integrals.{short, double-requires, halves-most, whole_float, nearest-done, keeps-away, large}
 use Rattle.exact.proofs.integral.nearest_f32.Goals as goal

@@ -1,4 +1,3 @@
-use Rattle.std.proofs.Common.{rules}
 use Rattle.exact.proofs.Narrowing.{no_nan}
 use Rattle.exact.proofs.Magnitude.{nan-bits}
 use Rattle.exact.proofs.order.bits_f32.Goals as goal

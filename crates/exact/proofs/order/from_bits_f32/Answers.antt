@@ -1,4 +1,4 @@
-use Rattle.std.proofs.Common.{arith, rules}
+use Rattle.std.proofs.Common.{arith}
 use Rattle.exact.proofs.Magnitude.{nan-value, value-no-nan}
 use Rattle.exact.proofs.order.from_bits_f32.Goals as goal
 

@@ -1,4 +1,4 @@
-use Rattle.std.proofs.Common.{◌≡◌, ℕ, ◌*◌, ◌%◌, ap, ◌∙◌, mod-eq_of_lt, arith, rules}
+use Rattle.std.proofs.Common.{◌≡◌, ℕ, ◌*◌, ◌%◌, ap, ◌∙◌, mod-eq_of_lt, arith}
 use lib.Bits.{bit_xor}
 use Rattle.exact.specs.Random.{split_mix, uniform_of, drawn}
 use Rattle.exact.proofs.random.rand01.Goals as goal

@@ -1,4 +1,4 @@
-use Rattle.std.proofs.Common.{ℕ, ◌*◌, ◌%◌, ◌^◌, ap, ◌∙◌, rules}
+use Rattle.std.proofs.Common.{ℕ, ◌*◌, ◌%◌, ◌^◌, ap, ◌∙◌}
 use Rattle.exact.specs.Random.{xor_shift, mix, split_mix}
 use Rattle.exact.proofs.random.splitmix64.Goals as goal
 

@@ -1,4 +1,4 @@
-use Rattle.std.proofs.Common.{◌/◌, ◌%◌, ◌∙◌, arith, rules}
+use Rattle.std.proofs.Common.{◌/◌, ◌%◌, ◌∙◌, arith}
 use Rattle.exact.proofs.Wrap.{halves_lt, product}
 use Rattle.exact.proofs.random.wrapping_mul_u64.Goals as goal
 

@@ -1,5 +1,5 @@
 use Rattle.std.proofs.Common.{T, sym, subst}
-use lib.Ieee.{fits, binary32, of_bits, div}
+use lib.Ieee.{binary32, of_bits, div}
 use Rattle.exact.proofs.Narrowing.{small-no-nan}
 use Rattle.exact.proofs.SquareRoot.{wide-pattern, above_no_nan, widens, root-done, root-infinite, root-negative, root-zero}
 use Rattle.exact.proofs.root.sqrt_f32.Goals as goal

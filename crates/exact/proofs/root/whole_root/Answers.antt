@@ -1,5 +1,5 @@
 use Rattle.std.proofs.Common.{arith}
-use Rattle.exact.proofs.SquareRoot.{Between, between_start, between-up, between-down, between_done, square-fits}
+use Rattle.exact.proofs.SquareRoot.{between_start, between-up, between-down, between_done, square-fits}
 use Rattle.exact.proofs.root.whole_root.Goals as goal
 
 pub loop-w-init : goal.loop-w-init

@@ -1,5 +1,4 @@
-use Rattle.std.proofs.Common.{arith}
-use Rattle.exact.proofs.SquareRoot.{Between, between_start, between-up, between-down, between_done, square-fits}
+use Rattle.exact.proofs.SquareRoot.{Between}
 use Rattle.exact.proofs.root.whole_root.Given as goal
 
 abbrev pub invariant-loop-w : goal.invariant-loop-w

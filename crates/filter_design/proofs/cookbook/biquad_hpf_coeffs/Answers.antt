@@ -1,5 +1,4 @@
 use Rattle.filter_design.specs.Cookbook.{high_pass}
-use borrow.Author.Rules.{rules}
 use Rattle.filter_design.proofs.cookbook.biquad_hpf_coeffs.Goals as goal
 
 pub returns : goal.returns

@@ -1,5 +1,4 @@
 use Rattle.filter_design.specs.Cookbook.{low_pass}
-use borrow.Author.Rules.{rules}
 use Rattle.filter_design.proofs.cookbook.biquad_lpf_coeffs.Goals as goal
 
 pub returns : goal.returns

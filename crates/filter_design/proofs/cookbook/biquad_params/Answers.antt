@@ -1,5 +1,4 @@
 use Rattle.filter_design.specs.Cookbook.{angle_of}
-use borrow.Author.Rules.{rules}
 use Rattle.filter_design.proofs.cookbook.biquad_params.Goals as goal
 
 pub returns : goal.returns

@@ -1,5 +1,4 @@
 use Rattle.filter_design.specs.Slots.{band_shape, band_frequency}
-use borrow.Author.Rules.{rules}
 use Rattle.filter_design.proofs.slots.band_shape.Goals as goal
 
 pub returns : goal.returns

@@ -13,7 +13,6 @@ use Rattle.filter.specs.declared.FilterShape.TheVariants.{Off}
 use Rattle.filter_design.specs.Slots.{slot, filter_slot, band_slot, run, six_of}
 use Rattle.filter_design.proofs.Joined.{length-joined}
 use Rattle.filter_design.proofs.Long.{filters-long, bands-long}
-use borrow.Author.Rules.{rules}
 use Rattle.filter_design.proofs.slots.build_filters.Goals as goal
 
 -- the run of a region's slots is as long as the two counts

@@ -1,5 +1,4 @@
 use Rattle.filter_design.specs.Slots.{designed}
-use borrow.Author.Rules.{rules}
 use Rattle.filter_design.proofs.slots.designed_shape.Goals as goal
 
 pub returns-in-Lpf1p : goal.returns-in-Lpf1p

@@ -1,5 +1,4 @@
 use Rattle.filter_design.specs.Slots.{equalized}
-use borrow.Author.Rules.{rules}
 use Rattle.filter_design.proofs.slots.equalized_shape.Goals as goal
 
 pub returns-in-Peak : goal.returns-in-Peak

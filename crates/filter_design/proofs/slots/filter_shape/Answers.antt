@@ -1,5 +1,4 @@
 use Rattle.filter_design.specs.Slots.{filter_shape}
-use borrow.Author.Rules.{rules}
 use Rattle.filter_design.proofs.slots.filter_shape.Goals as goal
 
 pub returns : goal.returns

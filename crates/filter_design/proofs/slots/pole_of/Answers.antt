@@ -1,5 +1,4 @@
 use Rattle.filter_design.specs.Slots.{pole_of}
-use borrow.Author.Rules.{rules}
 use Rattle.filter_design.proofs.slots.pole_of.Goals as goal
 
 pub returns : goal.returns

@@ -1,5 +1,4 @@
 use Rattle.filter_design.specs.Slots.{quality_of}
-use borrow.Author.Rules.{rules}
 use Rattle.filter_design.proofs.slots.quality_of.Goals as goal
 
 pub returns : goal.returns

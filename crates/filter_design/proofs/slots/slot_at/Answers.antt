@@ -6,7 +6,6 @@ use Rattle.filter.specs.declared.FilterShape.TheVariants.{Off}
 use Rattle.filter_design.specs.Slots.{slot, slot_at, filter_slot, band_slot, run}
 use Rattle.filter_design.proofs.Joined.{in-first, in-second, past-second}
 use Rattle.filter_design.proofs.Long.{filters-long, bands-long}
-use borrow.Author.Rules.{rules}
 use Rattle.filter_design.proofs.slots.slot_at.Goals as goal
 
 pub returns-then-k-filters : goal.returns-then-k-filters

@@ -1,6 +1,5 @@
 use mathlib.Core.Path.{ap, ◌∙◌}
 use Rattle.note.specs.Choice.{chosen_on}
-use borrow.Author.Rules.{rules}
 use Rattle.gates.proofs.gate.choose.Goals as goal
 
 pub returns : goal.returns

@@ -2,7 +2,6 @@ use mathlib.Core.Path.{sym, subst}
 use Rattle.players.specs.Seats.{PlayersOk}
 use Rattle.events.specs.declared.SampleVoice.{SampleVoice}
 use Rattle.gates.proofs.Gates.{killed-leave, none-killed}
-use borrow.Author.Rules.{rules}
 use Rattle.gates.proofs.gate.let_go.Goals as goal
 
 pub reap-requires : goal.reap-requires

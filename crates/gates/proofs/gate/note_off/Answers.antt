@@ -3,7 +3,6 @@ use mathlib.Core.Path.{sym, subst}
 use Rattle.players.specs.Seats.{PlayersOk}
 use Rattle.events.specs.declared.SampleVoice.{SampleVoice}
 use Rattle.gates.proofs.Gates.{not-held, let-go-note}
-use borrow.Author.Rules.{rules}
 use Rattle.gates.proofs.gate.note_off.Goals as goal
 
 pub returns-then-not-v : goal.returns-then-not-v

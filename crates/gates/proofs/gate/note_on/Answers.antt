@@ -1,5 +1,4 @@
 use Rattle.gates.proofs.Gates.{noted-on}
-use borrow.Author.Rules.{rules}
 use Rattle.gates.proofs.gate.note_on.Goals as goal
 
 pub returns : goal.returns

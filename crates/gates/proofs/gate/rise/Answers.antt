@@ -1,6 +1,5 @@
 use mathlib.Core.Path.{ap, ◌∙◌}
 use Rattle.session.specs.State.{held_up}
-use borrow.Author.Rules.{rules}
 use Rattle.gates.proofs.gate.rise.Goals as goal
 
 pub returns : goal.returns

@@ -2,7 +2,6 @@ use mathlib.Core.Path.{sym, subst}
 use Rattle.players.specs.Seats.{PlayersOk}
 use Rattle.events.specs.declared.SampleVoice.{SampleVoice}
 use Rattle.gates.proofs.Gates.{note-started}
-use borrow.Author.Rules.{rules}
 use Rattle.gates.proofs.gate.start_note.Goals as goal
 
 pub start_all-requires : goal.start_all-requires

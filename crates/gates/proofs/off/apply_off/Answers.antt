@@ -2,7 +2,6 @@ use mathlib.Core.Path.{sym, subst}
 use Rattle.players.specs.Seats.{PlayersOk}
 use Rattle.events.specs.declared.SampleVoice.{SampleVoice}
 use Rattle.gates.proofs.Turns.{off-ignored, off-acts}
-use borrow.Author.Rules.{rules}
 use Rattle.gates.proofs.off.apply_off.Goals as goal
 
 pub returns-then-o : goal.returns-then-o

@@ -3,7 +3,6 @@ use mathlib.Core.Path.{sym, subst}
 use Rattle.players.specs.Seats.{PlayersOk}
 use Rattle.events.specs.declared.SampleVoice.{SampleVoice}
 use Rattle.gates.proofs.Turns.{choke-not, choke-fired}
-use borrow.Author.Rules.{rules}
 use Rattle.gates.proofs.off.choke_fires.Goals as goal
 
 pub returns-then-not-may_fire : goal.returns-then-not-may_fire

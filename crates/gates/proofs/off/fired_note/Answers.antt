@@ -1,6 +1,5 @@
 use mathlib.Core.Path.{sym, ap}
 use Rattle.gates.specs.Off.{fired_note}
-use borrow.Author.Rules.{rules}
 use Rattle.gates.proofs.off.fired_note.Goals as goal
 
 pub returns-in-Present : goal.returns-in-Present

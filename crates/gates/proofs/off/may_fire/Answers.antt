@@ -1,5 +1,4 @@
 use borrow.Author.Tests.{not-false, not-true}
-use borrow.Author.Rules.{rules}
 use Rattle.gates.proofs.off.may_fire.Goals as goal
 
 pub returns-then-not-fires : goal.returns-then-not-fires

@@ -1,9 +1,8 @@
 use borrow.Author.Tests.{not-false, not-true}
-use Prim.Native.Nat.{◌-◌, ◌≤◌}
+use Prim.Native.Nat.{◌-◌}
 use mathlib.Core.Path.{refl}
 use native.Mathlib.Omega.{arith}
-use Rattle.players.specs.Seats.{PlayersOk}
-use Rattle.gates.proofs.Turns.{Turning, turn_on, turn-over, turn-stop}
+use Rattle.gates.proofs.Turns.{turn_on, turn-over, turn-stop}
 use Rattle.gates.proofs.off.own_offs.Goals as goal
 
 pub loop-k-init : goal.loop-k-init

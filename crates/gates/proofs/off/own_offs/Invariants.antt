@@ -1,9 +1,6 @@
-use borrow.Author.Tests.{not-false, not-true}
 use Prim.Native.Nat.{◌-◌, ◌≤◌}
-use mathlib.Core.Path.{refl}
-use native.Mathlib.Omega.{arith}
 use Rattle.players.specs.Seats.{PlayersOk}
-use Rattle.gates.proofs.Turns.{Turning, turn_on, turn-over, turn-stop}
+use Rattle.gates.proofs.Turns.{Turning}
 use Rattle.gates.proofs.off.own_offs.Given as goal
 
 abbrev pub invariant-loop-k : goal.invariant-loop-k

@@ -3,7 +3,6 @@ use mathlib.Core.Path.{sym, subst}
 use Rattle.players.specs.Seats.{PlayersOk}
 use Rattle.events.specs.declared.SampleVoice.{SampleVoice}
 use Rattle.gates.proofs.Turns.{reap-none, reap-some}
-use borrow.Author.Rules.{rules}
 use Rattle.gates.proofs.off.reap.Goals as goal
 
 pub returns-then-not-any_over : goal.returns-then-not-any_over

@@ -1,5 +1,4 @@
 use Rattle.gates.proofs.Turns.{own-nothing, own-taken}
-use borrow.Author.Rules.{rules}
 use Rattle.gates.proofs.off.took_own.Goals as goal
 
 pub returns-in-Nothing : goal.returns-in-Nothing

@@ -1,4 +1,3 @@
-use Rattle.std.proofs.Common.{rules}
 use Rattle.interp.proofs.points.each_weight.Goals as goal
 
 pub returns : goal.returns

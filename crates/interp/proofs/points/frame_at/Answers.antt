@@ -1,4 +1,4 @@
-use Rattle.std.proofs.Common.{arith, rules}
+use Rattle.std.proofs.Common.{rules}
 use Rattle.interp.proofs.Frames.{at-wrapped, none-wrapped}
 use Rattle.interp.proofs.points.frame_at.Goals as goal
 

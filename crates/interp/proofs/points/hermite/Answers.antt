@@ -1,5 +1,4 @@
 use Rattle.interp.specs.Points.{hermite_at}
-use Rattle.std.proofs.Common.{rules}
 use Rattle.interp.proofs.points.hermite.Goals as goal
 
 pub returns : goal.returns

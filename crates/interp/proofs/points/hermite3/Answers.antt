@@ -1,5 +1,4 @@
 use Rattle.interp.specs.Points.{weight3}
-use Rattle.std.proofs.Common.{rules}
 use Rattle.interp.proofs.points.hermite3.Goals as goal
 
 pub returns-then-d : goal.returns-then-d

@@ -1,5 +1,4 @@
 use Rattle.interp.specs.Points.{linear_at}
-use Rattle.std.proofs.Common.{rules}
 use Rattle.interp.proofs.points.linear.Goals as goal
 
 pub returns : goal.returns

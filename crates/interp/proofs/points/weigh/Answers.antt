@@ -1,4 +1,4 @@
-use Rattle.std.proofs.Common.{sym, ◌∙◌, rules}
+use Rattle.std.proofs.Common.{sym, ◌∙◌}
 use Rattle.interp.proofs.Sizes.{part-weights}
 use Rattle.interp.proofs.points.weigh.Goals as goal
 

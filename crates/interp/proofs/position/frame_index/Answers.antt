@@ -1,4 +1,4 @@
-use Rattle.std.proofs.Common.{ℕ, ◌≤◌, sym, subst, rules}
+use Rattle.std.proofs.Common.{ℕ, ◌≤◌, sym, subst}
 use Rattle.interp.proofs.Range.{position-within}
 use Rattle.interp.proofs.Whole.{position-cast}
 use Rattle.interp.proofs.position.frame_index.Goals as goal

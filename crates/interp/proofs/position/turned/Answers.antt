@@ -1,4 +1,4 @@
-use Rattle.std.proofs.Common.{◌+◌, ◌-◌, ◌*◌, ◌/◌, ◌^◌, T, arith, le→leb, rules}
+use Rattle.std.proofs.Common.{◌+◌, ◌-◌, ◌*◌, ◌/◌, ◌^◌, arith, le→leb, rules}
 use lib.Ieee.{in_float}
 use Rattle.interp.specs.Position.{looped}
 use Rattle.interp.proofs.Looping.{wraps, stays, turns-small}

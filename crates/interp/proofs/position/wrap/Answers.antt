@@ -1,4 +1,4 @@
-use Rattle.std.proofs.Common.{◌+◌, ◌^◌, sym, arith, le→leb, rules}
+use Rattle.std.proofs.Common.{◌+◌, ◌^◌, sym, arith, le→leb}
 use lib.Ieee.{in_float}
 use Rattle.interp.specs.Position.{looped}
 use Rattle.interp.proofs.Looping.{still}

@@ -1,4 +1,4 @@
-use Rattle.std.proofs.Common.{refl, rules}
+use Rattle.std.proofs.Common.{refl}
 use Rattle.interp.specs.Sinc.{crossings_of}
 use Rattle.interp.proofs.sinc.crossings.Goals as goal
 

@@ -1,4 +1,4 @@
-use Rattle.std.proofs.Common.{arith, rules}
+use Rattle.std.proofs.Common.{arith}
 use Rattle.interp.proofs.Ceiling.{far, none, near, rounded-up, is_whole}
 use Rattle.interp.proofs.sinc.half_taps.Goals as goal
 

@@ -1,5 +1,4 @@
 use Rattle.interp.specs.Places.{place_of}
-use Rattle.std.proofs.Common.{rules}
 use Rattle.interp.proofs.sinc.place.Goals as goal
 
 pub returns-then-u : goal.returns-then-u

@@ -1,6 +1,5 @@
-use Rattle.std.proofs.Common.{◌≡◌, ℕ, ◌-◌, ◌*◌, ◌≤◌, length, sym, ap, ◌∙◌, subst, le_antisymm, arith, length-set, rules}
-use Rattle.interp.specs.Places.{place_of, Placed}
-use Rattle.interp.proofs.Table.{place-fits, split, placed-none, placed-all, placed-more}
+use Rattle.std.proofs.Common.{◌≡◌, ◌-◌, ◌*◌, ◌≤◌, length}
+use Rattle.interp.specs.Places.{Placed}
 use Rattle.interp.proofs.sinc.places.Given as goal
 
 abbrev pub invariant-loop-k : goal.invariant-loop-k

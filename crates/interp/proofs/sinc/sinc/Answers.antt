@@ -1,6 +1,5 @@
-use Rattle.std.proofs.Common.{◌≡◌, ◌-◌, ◌*◌, ◌≤◌, refl, ◌∙◌, arith, rules}
+use Rattle.std.proofs.Common.{◌-◌, refl, ◌∙◌, arith, rules}
 use Rattle.interp.specs.Sinc.{taps}
-use Rattle.interp.specs.Places.{Placed}
 use Rattle.interp.proofs.Taps.{more_by, last}
 use Rattle.interp.proofs.sinc.sinc.Goals as goal
 

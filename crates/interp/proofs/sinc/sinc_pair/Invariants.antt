@@ -1,7 +1,6 @@
-use Rattle.std.proofs.Common.{◌≡◌, ◌-◌, ◌*◌, ◌≤◌, refl, ◌∙◌, arith, rules}
+use Rattle.std.proofs.Common.{◌≡◌, ◌-◌, ◌*◌, ◌≤◌}
 use Rattle.interp.specs.Sinc.{taps, left_of, right_of}
 use Rattle.interp.specs.Places.{Placed}
-use Rattle.interp.proofs.Taps.{more_by, last}
 use Rattle.interp.proofs.sinc.sinc_pair.Given as goal
 
 abbrev pub invariant-loop-k : goal.invariant-loop-k

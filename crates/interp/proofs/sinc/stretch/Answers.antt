@@ -1,5 +1,4 @@
 use Rattle.interp.specs.Span.{stretch_of}
-use Rattle.std.proofs.Common.{rules}
 use Rattle.interp.proofs.sinc.stretch.Goals as goal
 
 pub returns-then-step : goal.returns-then-step

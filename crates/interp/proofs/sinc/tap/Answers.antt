@@ -1,4 +1,4 @@
-use Rattle.std.proofs.Common.{rules, le-leb}
+use Rattle.std.proofs.Common.{le-leb}
 use borrow.Author.Tests.{lt-leb}
 use Rattle.interp.specs.Places.{tapped_by}
 use Rattle.interp.proofs.sinc.tap.Goals as goal

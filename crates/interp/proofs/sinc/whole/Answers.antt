@@ -1,4 +1,3 @@
-use Rattle.std.proofs.Common.{rules}
 use Rattle.interp.proofs.Whole.{cut_by}
 use Rattle.interp.proofs.sinc.whole.Goals as goal
 

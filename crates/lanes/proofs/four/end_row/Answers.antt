@@ -1,7 +1,4 @@
 use native.Mathlib.Omega.{arith}
-use borrow.Author.Rules.{rules}
-use Rattle.lanes.proofs.four.end_row.Reads as reads
-use Rattle.lanes.proofs.four.end_row.Lts as lts
 use Rattle.lanes.proofs.four.end_lane.Reads as end-lane-reads
 use Rattle.lanes.proofs.four.end_row.Goals as goal
 

@@ -1,7 +1,4 @@
 use native.Mathlib.Omega.{arith}
-use borrow.Author.Rules.{rules}
-use Rattle.lanes.proofs.four.end_row_pair.Reads as reads
-use Rattle.lanes.proofs.four.end_row_pair.Lts as lts
 use Rattle.lanes.proofs.four.end_lane_pair.Reads as end-lane-pair-reads
 use Rattle.lanes.proofs.four.end_row_pair.Goals as goal
 

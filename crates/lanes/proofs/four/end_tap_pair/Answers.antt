@@ -1,4 +1,3 @@
-use borrow.Author.Rules.{rules}
 use Rattle.lanes.proofs.Rows.{picked}
 use Rattle.lanes.proofs.four.end_tap_pair.Goals as goal
 

@@ -1,6 +1,5 @@
 use borrow.Author.Tests.{le-leb}
 use Rattle.interp.specs.Places.{tapped_by}
-use borrow.Author.Rules.{rules}
 use Rattle.lanes.proofs.four.inner_tap.Goals as goal
 
 pub returns : goal.returns

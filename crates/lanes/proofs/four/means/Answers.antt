@@ -1,5 +1,4 @@
 use Rattle.lanes.specs.Four.{means_of}
-use borrow.Author.Rules.{rules}
 use Rattle.lanes.proofs.four.means.Goals as goal
 
 pub returns : goal.returns

@@ -1,5 +1,4 @@
 use Rattle.interp.specs.Places.{place_of}
-use borrow.Author.Rules.{rules}
 use Rattle.lanes.proofs.four.near.Goals as goal
 
 pub returns-then-u : goal.returns-then-u

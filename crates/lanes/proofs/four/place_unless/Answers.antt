@@ -1,4 +1,3 @@
-use borrow.Author.Rules.{rules}
 use Rattle.lanes.proofs.four.place_unless.Goals as goal
 
 pub returns-then-placed : goal.returns-then-placed

@@ -1,11 +1,6 @@
-use mathlib.Core.Path.{◌≡◌}
-use Prim.Native.Nat.{◌≤◌, ◌-◌}
+use Prim.Native.Nat.{◌-◌}
 use native.Mathlib.Nat.{le_antisymm}
 use native.Mathlib.Omega.{arith}
-use borrow.Author.Rules.{rules}
-use lib.ListN.{length}
-use Rattle.exact.specs.Single.{◌⊖◌, single, f1}
-use Rattle.lanes.specs.Four.{Rows}
 use Rattle.lanes.proofs.Inner.{away-first, away-next}
 use Rattle.lanes.proofs.Rows.{rows_none, rows_at, away-at}
 use Rattle.lanes.proofs.four.places.Goals as goal

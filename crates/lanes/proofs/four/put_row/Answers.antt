@@ -1,4 +1,3 @@
-use borrow.Author.Rules.{rules}
 use Rattle.interp.proofs.Whole.{cast}
 use Rattle.lanes.proofs.four.put_row.Goals as goal
 

@@ -1,7 +1,4 @@
 use native.Mathlib.Omega.{arith}
-use borrow.Author.Rules.{rules}
-use Rattle.lanes.proofs.four.row.Reads as reads
-use Rattle.lanes.proofs.four.row.Lts as lts
 use Rattle.lanes.proofs.four.inner_lane.Reads as inner-lane-reads
 use Rattle.lanes.proofs.four.row.Goals as goal
 

@@ -1,7 +1,4 @@
 use native.Mathlib.Omega.{arith}
-use borrow.Author.Rules.{rules}
-use Rattle.lanes.proofs.four.row_pair.Reads as reads
-use Rattle.lanes.proofs.four.row_pair.Lts as lts
 use Rattle.lanes.proofs.four.inner_lane_pair.Reads as inner-lane-pair-reads
 use Rattle.lanes.proofs.four.row_pair.Goals as goal
 

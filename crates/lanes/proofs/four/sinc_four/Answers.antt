@@ -1,10 +1,9 @@
 use mathlib.Core.Path.{◌∙◌}
-use Prim.Native.Nat.{◌-◌, ◌*◌, ◌≤◌}
+use Prim.Native.Nat.{◌-◌}
 use native.Mathlib.Omega.{arith}
-use Rattle.lanes.specs.Four.{Rows, InFrames}
 use Rattle.interp.specs.declared.sinc.SincSpan.{SincSpan}
 use Rattle.lanes.specs.declared.four.Four.{Four}
-use Rattle.lanes.proofs.Rows.{Tapped, tapped-row, tapped-none, tapped-at, all-taps, low-row, in-frames}
+use Rattle.lanes.proofs.Rows.{tapped-row, tapped-none, tapped-at, all-taps, low-row, in-frames}
 use Rattle.lanes.proofs.four.sinc_four.Goals as goal
 
 pub place_unless-requires : goal.place_unless-requires

@@ -1,10 +1,8 @@
-use mathlib.Core.Path.{◌∙◌}
 use Prim.Native.Nat.{◌-◌, ◌*◌, ◌≤◌}
-use native.Mathlib.Omega.{arith}
 use Rattle.lanes.specs.Four.{Rows, InFrames, left_lanes, right_lanes}
 use Rattle.interp.specs.declared.sinc.SincSpan.{SincSpan}
 use Rattle.lanes.specs.declared.four.Four.{Four}
-use Rattle.lanes.proofs.Rows.{Tapped, tapped-row, tapped-none, tapped-at, all-taps, low-row, in-frames}
+use Rattle.lanes.proofs.Rows.{Tapped}
 use Rattle.lanes.proofs.four.sinc_four_pair.Given as goal
 
 abbrev pub invariant-loop-j : goal.invariant-loop-j

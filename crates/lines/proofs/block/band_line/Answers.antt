@@ -1,9 +1,8 @@
-use mathlib.Core.Path.{◌≡◌, refl, sym, ap, ◌∙◌}
+use mathlib.Core.Path.{refl, sym, ◌∙◌}
 use borrow.Author.Tests.{not-true, not-false}
 use Rattle.lines.proofs.Readings.{pick_yes, pick_no}
 use Rattle.lines.specs.Block.{band_line}
 use Rattle.lines.specs.Rows.{rows}
-use borrow.Author.Rules.{rules}
 use Rattle.lines.proofs.block.band_line.Goals as goal
 
 pub returns-then-not-line_fits : goal.returns-then-not-line_fits

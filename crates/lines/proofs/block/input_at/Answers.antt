@@ -1,7 +1,6 @@
-use mathlib.Core.Path.{◌≡◌, refl, sym, ap, ◌∙◌}
+use mathlib.Core.Path.{sym, ◌∙◌}
 use Rattle.lines.proofs.Readings.{pick_yes, pick_no}
 use Rattle.lines.specs.Block.{input_at}
-use borrow.Author.Rules.{rules}
 use Rattle.lines.proofs.block.input_at.Goals as goal
 
 pub returns-then-is_none : goal.returns-then-is_none

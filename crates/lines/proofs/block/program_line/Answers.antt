@@ -1,7 +1,6 @@
-use mathlib.Core.Path.{◌≡◌, refl, sym, ap, ◌∙◌}
+use mathlib.Core.Path.{refl, sym, ◌∙◌}
 use Rattle.lines.proofs.Readings.{pick_yes, pick_no}
 use Rattle.lines.specs.Block.{program_line}
-use borrow.Author.Rules.{rules}
 use Rattle.lines.proofs.block.program_line.Goals as goal
 
 pub returns-then-is_byte : goal.returns-then-is_byte

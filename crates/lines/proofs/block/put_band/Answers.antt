@@ -1,5 +1,4 @@
 use Rattle.lines.proofs.Tables.{band-rows}
-use borrow.Author.Rules.{rules}
 use Rattle.lines.proofs.block.put_band.Goals as goal
 
 pub returns : goal.returns

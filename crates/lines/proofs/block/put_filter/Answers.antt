@@ -1,5 +1,4 @@
 use Rattle.lines.proofs.Tables.{filter-rows}
-use borrow.Author.Rules.{rules}
 use Rattle.lines.proofs.block.put_filter.Goals as goal
 
 pub returns : goal.returns

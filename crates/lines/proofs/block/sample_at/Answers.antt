@@ -1,5 +1,4 @@
 use Rattle.lines.specs.Block.{sample_at}
-use borrow.Author.Rules.{rules}
 use Rattle.lines.proofs.block.sample_at.Goals as goal
 
 pub returns : goal.returns

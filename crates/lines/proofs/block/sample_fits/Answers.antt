@@ -1,11 +1,10 @@
-use mathlib.Core.Path.{◌≡◌, refl, sym, ap, ◌∙◌}
+use mathlib.Core.Path.{sym, ap, ◌∙◌}
 use borrow.Author.Tests.{not-true, not-false}
 use Rattle.program.proofs.Checks.{after}
 use lib.Dec.{ltb}
 use Rattle.lines.specs.Rows.{rows}
 use Rattle.lines.specs.Block.{sample_test}
 use Rattle.lines.proofs.Tables.{and_no}
-use borrow.Author.Rules.{rules}
 use Rattle.lines.proofs.block.sample_fits.Goals as goal
 
 pub returns-then-not-line_fits : goal.returns-then-not-line_fits

@@ -1,8 +1,7 @@
-use mathlib.Core.Path.{◌≡◌, refl, sym, ap, ◌∙◌}
+use mathlib.Core.Path.{refl, sym, ◌∙◌}
 use borrow.Author.Tests.{not-true, not-false}
 use Rattle.lines.proofs.Readings.{pick_yes, pick_no}
 use Rattle.lines.specs.Block.{sample_line}
-use borrow.Author.Rules.{rules}
 use Rattle.lines.proofs.block.sample_line.Goals as goal
 
 pub returns-then-not-sample_fits : goal.returns-then-not-sample_fits

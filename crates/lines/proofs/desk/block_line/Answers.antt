@@ -2,7 +2,6 @@ use mathlib.Core.Path.{refl, sym, ◌∙◌}
 use borrow.Author.Tests.{not-true, not-false}
 use Rattle.lines.proofs.Readings.{pick_yes, pick_no}
 use Rattle.lines.specs.Desk.{block_line}
-use borrow.Author.Rules.{rules}
 use Rattle.lines.proofs.desk.block_line.Goals as goal
 
 pub returns-then-not-block_ok : goal.returns-then-not-block_ok

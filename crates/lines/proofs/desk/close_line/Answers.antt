@@ -2,7 +2,6 @@ use mathlib.Core.Path.{refl, sym, ◌∙◌}
 use borrow.Author.Tests.{not-true, not-false}
 use Rattle.lines.proofs.Readings.{pick_yes, pick_no}
 use Rattle.lines.specs.Desk.{close_line}
-use borrow.Author.Rules.{rules}
 use Rattle.lines.proofs.desk.close_line.Goals as goal
 
 pub returns-then-not-names_voice : goal.returns-then-not-names_voice

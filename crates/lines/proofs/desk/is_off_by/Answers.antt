@@ -1,7 +1,6 @@
 use mathlib.Core.Path.{sym, ◌∙◌}
 use Rattle.lines.proofs.Readings.{or_yes, or_no}
 use Rattle.lines.specs.Desk.{is_off_by}
-use borrow.Author.Rules.{rules}
 use Rattle.lines.proofs.desk.is_off_by.Goals as goal
 
 pub returns-then-is_none : goal.returns-then-is_none

@@ -5,7 +5,6 @@ use Rattle.program.proofs.Checks.{every-no, after, final}
 use Rattle.lines.proofs.Readings.{pick_yes, pick_no}
 use Rattle.lines.specs.Fields.{field_at, is_number}
 use Rattle.lines.specs.Desk.{is_seq}
-use borrow.Author.Rules.{rules}
 use Rattle.lines.proofs.desk.is_seq.Goals as goal
 
 pub returns-then-is_none : goal.returns-then-is_none

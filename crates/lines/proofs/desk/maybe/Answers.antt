@@ -1,7 +1,6 @@
 use mathlib.Core.Path.{refl, sym, ◌∙◌}
 use Rattle.lines.proofs.Readings.{pick_yes, pick_no}
 use Rattle.lines.specs.Desk.{maybe}
-use borrow.Author.Rules.{rules}
 use Rattle.lines.proofs.desk.maybe.Goals as goal
 
 pub returns-then-is_none : goal.returns-then-is_none

@@ -4,7 +4,6 @@ use borrow.Author.Tests.{not-true, not-false}
 use Rattle.program.proofs.Checks.{every-no, after, final}
 use Rattle.lines.specs.Fields.{field_at, is_number, has_fields}
 use Rattle.lines.specs.Desk.{names_voice}
-use borrow.Author.Rules.{rules}
 use Rattle.lines.proofs.desk.names_voice.Goals as goal
 
 pub returns-then-not-has_fields : goal.returns-then-not-has_fields

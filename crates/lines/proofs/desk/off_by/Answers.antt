@@ -3,7 +3,6 @@ use mir.Syntax.{w32}
 use mir.Facts.{to_z-of_z}
 use Rattle.lines.proofs.Readings.{pick_yes, pick_no}
 use Rattle.lines.specs.Desk.{off_by_field}
-use borrow.Author.Rules.{rules}
 use Rattle.lines.proofs.desk.off_by.Goals as goal
 
 pub returns-then-is_none : goal.returns-then-is_none

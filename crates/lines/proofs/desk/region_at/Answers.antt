@@ -1,7 +1,6 @@
 use mir.Syntax.{w32}
 use mir.Facts.{to_z-of_z}
 use Rattle.lines.specs.Desk.{region_at}
-use borrow.Author.Rules.{rules}
 use Rattle.lines.proofs.desk.region_at.Goals as goal
 
 pub returns : goal.returns

@@ -2,7 +2,6 @@ use mathlib.Core.Path.{refl, sym, ◌∙◌}
 use borrow.Author.Tests.{not-true, not-false}
 use Rattle.lines.proofs.Readings.{pick_yes, pick_no}
 use Rattle.lines.specs.Desk.{region_line}
-use borrow.Author.Rules.{rules}
 use Rattle.lines.proofs.desk.region_line.Goals as goal
 
 pub returns-then-not-region_ok : goal.returns-then-not-region_ok

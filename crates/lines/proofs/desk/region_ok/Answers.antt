@@ -2,7 +2,6 @@ use mathlib.Core.Path.{sym, ◌∙◌}
 use borrow.Author.Tests.{not-true, not-false}
 use Rattle.program.proofs.Checks.{every-no, after, final}
 use Rattle.lines.specs.Desk.{region_tests}
-use borrow.Author.Rules.{rules}
 use Rattle.lines.proofs.desk.region_ok.Goals as goal
 
 pub returns-then-not-has_fields : goal.returns-then-not-has_fields

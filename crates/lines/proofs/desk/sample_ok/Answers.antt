@@ -4,7 +4,6 @@ use lib.Dec.{ltb, leb}
 use borrow.Author.Tests.{lt-ltb, le-ltb, not-true, not-false}
 use Rattle.program.proofs.Checks.{every-no, after, final}
 use Rattle.lines.specs.Desk.{sample_tests}
-use borrow.Author.Rules.{rules}
 use Rattle.lines.proofs.desk.sample_ok.Goals as goal
 
 pub returns-then-not-has_fields : goal.returns-then-not-has_fields

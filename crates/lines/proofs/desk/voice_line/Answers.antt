@@ -6,7 +6,6 @@ use Rattle.program.proofs.Checks.{every-no, after, final}
 use Rattle.lines.proofs.Readings.{pick_yes, pick_no}
 use Rattle.lines.specs.Fields.{field_at, has_fields}
 use Rattle.lines.specs.Desk.{voice_line}
-use borrow.Author.Rules.{rules}
 use Rattle.lines.proofs.desk.voice_line.Goals as goal
 
 pub returns-then-not-has_fields : goal.returns-then-not-has_fields

@@ -1,5 +1,4 @@
 use Rattle.lines.specs.Desk.{window_at}
-use borrow.Author.Rules.{rules}
 use Rattle.lines.proofs.desk.window_at.Goals as goal
 
 pub returns : goal.returns

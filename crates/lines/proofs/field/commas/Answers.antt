@@ -1,10 +1,7 @@
-use Prim.Native.Nat.{◌+◌, ◌-◌, ◌≤◌}
-use mathlib.Core.Path.{◌≡◌, ap, ◌∙◌}
-use mathlib.Core.Logic.{⊎_elim}
+use Prim.Native.Nat.{◌+◌, ◌-◌}
+use mathlib.Core.Path.{ap, ◌∙◌}
 use native.Mathlib.Omega.{arith}
 use borrow.Author.Rules.{rules}
-use lib.ListN.{length, drop}
-use Rattle.lines.specs.Fields.{fields_of}
 use Rattle.lines.proofs.Splitting.{count-comma, count-other, count-end}
 use Rattle.lines.proofs.field.commas.Goals as goal
 use Rattle.lines.proofs.field.commas.Goals.{else-line-i-eq44, then-line-i-eq44}

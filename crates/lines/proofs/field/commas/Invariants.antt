@@ -1,11 +1,7 @@
 use Prim.Native.Nat.{◌+◌, ◌-◌, ◌≤◌}
-use mathlib.Core.Path.{◌≡◌, ap, ◌∙◌}
-use mathlib.Core.Logic.{⊎_elim}
-use native.Mathlib.Omega.{arith}
-use borrow.Author.Rules.{rules}
+use mathlib.Core.Path.{◌≡◌}
 use lib.ListN.{length, drop}
 use Rattle.lines.specs.Fields.{fields_of}
-use Rattle.lines.proofs.Splitting.{count-comma, count-other, count-end}
 use Rattle.lines.proofs.field.commas.Given as goal
 
 abbrev pub invariant-loop-i : goal.invariant-loop-i

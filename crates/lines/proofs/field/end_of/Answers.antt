@@ -1,9 +1,6 @@
-use Prim.Native.Nat.{◌-◌, ◌≤◌}
-use mathlib.Core.Path.{◌≡◌, ◌∙◌}
-use mathlib.Core.List.{◌++◌}
+use Prim.Native.Nat.{◌-◌}
+use mathlib.Core.Path.{◌∙◌}
 use borrow.Author.Rules.{rules}
-use lib.ListN.{length, take, drop}
-use Rattle.lines.specs.Fields.{field_at}
 use Rattle.lines.proofs.Splitting.{field-start, field_next, field_end, first-comma, past_end}
 use Rattle.lines.proofs.field.end_of.Goals as goal
 

@@ -1,10 +1,8 @@
 use Prim.Native.Nat.{◌-◌, ◌≤◌}
-use mathlib.Core.Path.{◌≡◌, ◌∙◌}
+use mathlib.Core.Path.{◌≡◌}
 use mathlib.Core.List.{◌++◌}
-use borrow.Author.Rules.{rules}
 use lib.ListN.{length, take, drop}
 use Rattle.lines.specs.Fields.{field_at}
-use Rattle.lines.proofs.Splitting.{field-start, field_next, field_end, first-comma, past_end}
 use Rattle.lines.proofs.field.end_of.Given as goal
 
 abbrev pub invariant-loop-at : goal.invariant-loop-at

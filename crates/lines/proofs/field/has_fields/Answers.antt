@@ -1,4 +1,3 @@
-use borrow.Author.Rules.{rules}
 use Rattle.lines.proofs.Splitting.{no_fields, as_many}
 use Rattle.lines.proofs.field.has_fields.Goals as goal
 

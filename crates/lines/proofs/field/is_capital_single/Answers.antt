@@ -1,4 +1,3 @@
-use borrow.Author.Rules.{rules}
 use borrow.Author.Tests.{not-true, not-false}
 use Rattle.lines.specs.Fields.{field_at}
 use Rattle.lines.proofs.Readings.{some-small, none-small}

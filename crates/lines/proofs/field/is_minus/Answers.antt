@@ -1,5 +1,4 @@
 use mathlib.Core.Path.{refl}
-use borrow.Author.Rules.{rules}
 use Rattle.lines.proofs.Readings.{no_minus}
 use Rattle.lines.specs.Fields.{is_minus}
 use Rattle.lines.proofs.field.is_minus.Goals as goal

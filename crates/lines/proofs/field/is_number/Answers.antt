@@ -1,4 +1,3 @@
-use borrow.Author.Rules.{rules}
 use Rattle.lines.specs.Fields.{field_at}
 use Rattle.lines.proofs.Readings.{read_is}
 use Rattle.lines.proofs.field.is_number.Goals as goal

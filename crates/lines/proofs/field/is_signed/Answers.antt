@@ -1,7 +1,6 @@
 use Prim.Native.Nat.{◌-◌}
 use mathlib.Core.Path.{refl, ◌∙◌}
 use native.Mathlib.Omega.{arith}
-use borrow.Author.Rules.{rules}
 use lib.ListN.{length, take, drop}
 use Rattle.lines.specs.Fields.{field_at}
 use Rattle.lines.proofs.Readings.{read_is, below-is, above-is, some-minus, tail-is}

@@ -1,4 +1,3 @@
-use borrow.Author.Rules.{rules}
 use Rattle.lines.specs.Fields.{field_at}
 use Rattle.lines.proofs.Readings.{not_eight, eight, read_is}
 use Rattle.lines.proofs.field.is_single.Goals as goal

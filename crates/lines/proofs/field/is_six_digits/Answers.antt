@@ -1,4 +1,3 @@
-use borrow.Author.Rules.{rules}
 use Rattle.lines.specs.Fields.{field_at}
 use Rattle.lines.proofs.Readings.{too_long, not-long}
 use Rattle.lines.proofs.field.is_six_digits.Goals as goal

@@ -1,9 +1,7 @@
 use Prim.Native.Nat.{◌-◌, ◌≤◌}
-use mathlib.Core.Path.{◌≡◌, refl, sym, ◌∙◌}
-use borrow.Author.Rules.{rules}
+use mathlib.Core.Path.{◌≡◌}
 use lib.ListN.{length, drop}
 use Rattle.lines.specs.Fields.{no_small}
-use Rattle.lines.proofs.Readings.{all-passed, small-here, not-small}
 use Rattle.lines.proofs.field.no_small.Given as goal
 
 abbrev pub invariant-loop-i : goal.invariant-loop-i

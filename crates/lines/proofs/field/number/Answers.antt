@@ -1,4 +1,3 @@
-use borrow.Author.Rules.{rules}
 use Rattle.lines.specs.Fields.{field_at}
 use Rattle.lines.proofs.Readings.{value-is, value-max}
 use Rattle.lines.proofs.field.number.Goals as goal

@@ -1,8 +1,6 @@
 use Prim.Native.Nat.{◌-◌}
 use native.Mathlib.Omega.{arith}
-use borrow.Author.Rules.{rules}
-use lib.ListN.{length}
-use Rattle.lines.proofs.Numerals.{Reading, empty, begins, ends, no_digit, large, next, over, fits}
+use Rattle.lines.proofs.Numerals.{empty, begins, ends, no_digit, large, next, over, fits}
 use Rattle.lines.proofs.field.read_numeral.Goals as goal
 
 pub returns-then-f-eq0 : goal.returns-then-f-eq0

@@ -1,8 +1,6 @@
 use Prim.Native.Nat.{◌-◌}
-use native.Mathlib.Omega.{arith}
-use borrow.Author.Rules.{rules}
 use lib.ListN.{length}
-use Rattle.lines.proofs.Numerals.{Reading, empty, begins, ends, no_digit, large, next, over, fits}
+use Rattle.lines.proofs.Numerals.{Reading}
 use Rattle.lines.proofs.field.read_numeral.Given as goal
 
 abbrev pub invariant-loop-i : goal.invariant-loop-i

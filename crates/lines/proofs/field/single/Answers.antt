@@ -1,6 +1,5 @@
 use mathlib.Core.Path.{ap, ◌∙◌}
 use native.Mathlib.Omega.{arith}
-use borrow.Author.Rules.{rules}
 use Rattle.lines.specs.Fields.{field_at}
 use Rattle.lines.proofs.Readings.{value-is, value-max}
 use Rattle.program.specs.Region.{float_of}

@@ -1,11 +1,7 @@
-use Prim.Native.Nat.{◌+◌, ◌-◌, ◌≤◌}
-use mathlib.Core.Path.{◌≡◌, refl, sym, ap, ◌∙◌}
-use mathlib.Core.Logic.{⊎_elim}
-use native.Mathlib.Omega.{arith}
-use borrow.Author.Rules.{rules}
+use Prim.Native.Nat.{◌-◌, ◌≤◌}
+use mathlib.Core.Path.{◌≡◌}
 use lib.ListN.{length, drop}
 use Rattle.lines.specs.Fields.{field_at}
-use Rattle.lines.proofs.Splitting.{pass-comma, pass-other, past_end}
 use Rattle.lines.proofs.field.start_of.Given as goal
 
 abbrev pub invariant-loop-at : goal.invariant-loop-at

@@ -1,11 +1,7 @@
-use Prim.Native.Nat.{◌≤◌}
-use mathlib.Core.Path.{◌≡◌, refl, sym, ◌∙◌}
+use mathlib.Core.Path.{refl, sym, ◌∙◌}
 use native.Mathlib.Nat.{mod-lt}
 use native.Mathlib.Omega.{arith}
-use lib.ListN.{length, length-set}
-use lib.Seq.{sets}
-use borrow.Author.Rules.{rules}
-use Rattle.lines.specs.Print.{last_digits}
+use lib.ListN.{length-set}
 use Rattle.lines.proofs.Printing.{digit-stored, none_left}
 use Rattle.lines.proofs.print.fill.Goals as goal
 

@@ -1,12 +1,8 @@
 use Prim.Native.Nat.{◌≤◌}
-use mathlib.Core.Path.{◌≡◌, refl, sym, ◌∙◌}
-use native.Mathlib.Nat.{mod-lt}
-use native.Mathlib.Omega.{arith}
-use lib.ListN.{length, length-set}
+use mathlib.Core.Path.{◌≡◌}
+use lib.ListN.{length}
 use lib.Seq.{sets}
-use borrow.Author.Rules.{rules}
 use Rattle.lines.specs.Print.{last_digits}
-use Rattle.lines.proofs.Printing.{digit-stored, none_left}
 use Rattle.lines.proofs.print.fill.Given as goal
 
 abbrev pub invariant-loop-i : goal.invariant-loop-i

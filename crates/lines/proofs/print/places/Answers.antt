@@ -1,8 +1,5 @@
-use Prim.Native.Nat.{◌+◌, ◌-◌, ◌≤◌, ◌<◌}
-use mathlib.Core.Path.{◌≡◌}
+use Prim.Native.Nat.{◌-◌}
 use native.Mathlib.Omega.{arith}
-use borrow.Author.Rules.{rules}
-use Rattle.lines.specs.Print.{places_in}
 use Rattle.lines.proofs.Printing.{one_place, more-places, last-place}
 use Rattle.lines.proofs.print.places.Goals as goal
 

@@ -1,9 +1,6 @@
 use Prim.Native.Nat.{◌+◌, ◌-◌, ◌≤◌, ◌<◌}
 use mathlib.Core.Path.{◌≡◌}
-use native.Mathlib.Omega.{arith}
-use borrow.Author.Rules.{rules}
 use Rattle.lines.specs.Print.{places_in}
-use Rattle.lines.proofs.Printing.{one_place, more-places, last-place}
 use Rattle.lines.proofs.print.places.Given as goal
 
 abbrev pub invariant-loop-k : goal.invariant-loop-k

@@ -4,7 +4,6 @@ use mathlib.Core.Path.{ap, ◌∙◌}
 use native.Mathlib.Omega.{arith}
 use lib.ListN.{length, set, length-set}
 use lib.Seq.{length-sets}
-use borrow.Author.Rules.{rules}
 use Rattle.lines.specs.Print.{last_digits, digits_of, put}
 use Rattle.lines.proofs.Printing.{length_digits, sign-no-room, sign-filled}
 use Rattle.lines.proofs.print.put_below.Goals as goal

@@ -1,5 +1,4 @@
 use native.Mathlib.Omega.{arith}
-use borrow.Author.Rules.{rules}
 use Rattle.lines.specs.Print.{last_digits}
 use Rattle.lines.proofs.Printing.{length_digits, no_room, filled}
 use Rattle.lines.proofs.print.put_digits.Goals as goal

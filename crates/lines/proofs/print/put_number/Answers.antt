@@ -1,5 +1,4 @@
 use mathlib.Core.Path.{ap, ◌∙◌}
-use borrow.Author.Rules.{rules}
 use Rattle.lines.specs.Print.{last_digits, digits_of, put}
 use Rattle.lines.proofs.print.put_number.Goals as goal
 

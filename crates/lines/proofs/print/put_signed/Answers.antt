@@ -1,6 +1,5 @@
 use mathlib.Core.Path.{◌∙◌, ap}
 use mir.Facts.{to_z-of_z}
-use borrow.Author.Rules.{rules}
 use Rattle.lines.specs.Print.{put}
 use Rattle.lines.proofs.Printing.{complement-fits, plain, complement-plain, complement-more, digits_above, digits-below}
 use Rattle.lines.proofs.print.put_signed.Goals as goal

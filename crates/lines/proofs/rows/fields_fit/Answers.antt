@@ -1,10 +1,9 @@
 use borrow.Author.Rules.{rules}
-use Prim.Native.Nat.{◌+◌, ◌-◌, ◌≤◌}
-use mathlib.Core.Path.{◌≡◌, refl, sym, ap, ◌∙◌}
-use lib.ListN.{length, take, drop}
+use Prim.Native.Nat.{◌-◌}
+use mathlib.Core.Path.{sym, ap, ◌∙◌}
 use borrow.Author.Tests.{not-true, not-false}
-use Rattle.lines.specs.Rows.{rows, fields_fit}
-use Rattle.lines.proofs.Tables.{left, left-all, row-no, row-yes, rows-no-more}
+use Rattle.lines.specs.Rows.{fields_fit}
+use Rattle.lines.proofs.Tables.{left-all, row-no, row-yes, rows-no-more}
 use Rattle.lines.proofs.rows.fields_fit.Goals as goal
 
 pub loop-i-init : goal.loop-i-init

@@ -1,10 +1,8 @@
-use borrow.Author.Rules.{rules}
 use Prim.Native.Nat.{◌+◌, ◌-◌, ◌≤◌}
-use mathlib.Core.Path.{◌≡◌, refl, sym, ap, ◌∙◌}
-use lib.ListN.{length, take, drop}
-use borrow.Author.Tests.{not-true, not-false}
+use mathlib.Core.Path.{◌≡◌}
+use lib.ListN.{take, drop}
 use Rattle.lines.specs.Rows.{rows, fields_fit}
-use Rattle.lines.proofs.Tables.{left, left-all, row-no, row-yes, rows-no-more}
+use Rattle.lines.proofs.Tables.{left}
 use Rattle.lines.proofs.rows.fields_fit.Given as goal
 
 abbrev pub invariant-loop-i : goal.invariant-loop-i

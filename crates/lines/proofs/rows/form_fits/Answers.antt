@@ -1,7 +1,6 @@
 use Rattle.lines.specs.Fields.{field_at}
 use Rattle.lines.proofs.Tables.{fits-at, fits-past}
 use Rattle.lines.specs.Rows.{form_fits}
-use borrow.Author.Rules.{rules}
 use Rattle.lines.proofs.rows.form_fits.Goals as goal
 
 pub returns-then-form-eq0 : goal.returns-then-form-eq0

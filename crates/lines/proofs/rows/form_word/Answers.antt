@@ -1,11 +1,10 @@
 use Rattle.lines.specs.Fields.{field_at, word_of}
 use Rattle.lines.proofs.Tables.{word_at, word-past}
-use mathlib.Core.Path.{◌≡◌, refl, sym, ap, ◌∙◌}
+use mathlib.Core.Path.{refl, ap, ◌∙◌}
 use lib.Ieee.{binary32, to_bits}
 use mir.Syntax.{w32}
 use mir.Facts.{to_z-of_z}
 use Rattle.lines.specs.Rows.{form_word}
-use borrow.Author.Rules.{rules}
 use Rattle.lines.proofs.rows.form_word.Goals as goal
 
 pub returns-then-form-eq0 : goal.returns-then-form-eq0

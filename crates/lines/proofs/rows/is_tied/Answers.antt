@@ -1,5 +1,4 @@
 use Rattle.lines.proofs.Tables.{never-tied, tied_by}
-use borrow.Author.Rules.{rules}
 use Rattle.lines.proofs.rows.is_tied.Goals as goal
 
 pub returns-then-lead-eq0 : goal.returns-then-lead-eq0

@@ -1,9 +1,8 @@
-use mathlib.Core.Path.{◌≡◌, refl, sym, ap, ◌∙◌}
+use mathlib.Core.Path.{sym, ◌∙◌}
 use borrow.Author.Tests.{not-true, not-false}
 use Rattle.program.proofs.Checks.{after}
 use Rattle.lines.specs.Rows.{line_fits}
 use Rattle.lines.proofs.Tables.{and_no}
-use borrow.Author.Rules.{rules}
 use Rattle.lines.proofs.rows.line_fits.Goals as goal
 
 pub returns-then-not-has_fields : goal.returns-then-not-has_fields

@@ -1,9 +1,8 @@
 use borrow.Author.Rules.{rules}
-use Prim.Native.Nat.{◌+◌, ◌-◌, ◌≤◌}
-use mathlib.Core.Path.{◌≡◌, refl, sym, ap, ◌∙◌}
-use lib.ListN.{length, take, drop}
-use Rattle.lines.specs.Rows.{rows, put_fields}
-use Rattle.lines.proofs.Tables.{left, left-all, row_put, words-no-more}
+use Prim.Native.Nat.{◌-◌}
+use mathlib.Core.Path.{sym, ap, ◌∙◌}
+use Rattle.lines.specs.Rows.{put_fields}
+use Rattle.lines.proofs.Tables.{left-all, row_put, words-no-more}
 use Rattle.lines.proofs.rows.put_fields.Goals as goal
 
 pub loop-i-init : goal.loop-i-init

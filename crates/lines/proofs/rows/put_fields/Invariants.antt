@@ -1,9 +1,8 @@
-use borrow.Author.Rules.{rules}
 use Prim.Native.Nat.{◌+◌, ◌-◌, ◌≤◌}
-use mathlib.Core.Path.{◌≡◌, refl, sym, ap, ◌∙◌}
+use mathlib.Core.Path.{◌≡◌}
 use lib.ListN.{length, take, drop}
 use Rattle.lines.specs.Rows.{rows, put_fields}
-use Rattle.lines.proofs.Tables.{left, left-all, row_put, words-no-more}
+use Rattle.lines.proofs.Tables.{left}
 use Rattle.lines.proofs.rows.put_fields.Given as goal
 
 abbrev pub invariant-loop-i : goal.invariant-loop-i

@@ -1,6 +1,5 @@
 use Rattle.lines.specs.Fields.{field_at}
 use Rattle.lines.proofs.Tables.{no_flag, flag-none, flag-some}
-use borrow.Author.Rules.{rules}
 use Rattle.lines.proofs.rows.put_flag.Goals as goal
 
 pub returns-then-flag-eq0 : goal.returns-then-flag-eq0

@@ -1,5 +1,4 @@
 use Rattle.lines.specs.Rows.{put_row}
-use borrow.Author.Rules.{rules}
 use Rattle.lines.proofs.rows.put_row.Goals as goal
 
 pub returns : goal.returns

@@ -1,6 +1,5 @@
 use Rattle.lines.proofs.Tables.{row-columns}
 use Rattle.lines.specs.Rows.{rows}
-use borrow.Author.Rules.{rules}
 use Rattle.lines.proofs.rows.row_at.Goals as goal
 
 pub returns : goal.returns

@@ -1,7 +1,6 @@
-use mathlib.Core.Path.{◌≡◌, refl, sym, ap, ◌∙◌}
+use mathlib.Core.Path.{sym, ◌∙◌}
 use Rattle.lines.proofs.Readings.{pick_yes, pick_no}
 use Rattle.lines.specs.Rows.{row_fits}
-use borrow.Author.Rules.{rules}
 use Rattle.lines.proofs.rows.row_fits.Goals as goal
 
 pub returns-then-is_tied : goal.returns-then-is_tied

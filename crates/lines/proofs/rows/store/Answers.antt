@@ -1,5 +1,4 @@
 use Rattle.lines.proofs.Tables.{set_past}
-use borrow.Author.Rules.{rules}
 use Rattle.lines.proofs.rows.store.Goals as goal
 
 pub returns-else-at-w : goal.returns-else-at-w

@@ -1,6 +1,5 @@
 use Rattle.note.specs.Choice.{add_region}
 use borrow.Author.Tests.{lt-ltb, le-ltb}
-use borrow.Author.Rules.{rules}
 use Rattle.note.proofs.choice.add_region.Goals as goal
 
 pub returns-then-c-ge256 : goal.returns-then-c-ge256

@@ -1,12 +1,8 @@
 use Prim.Native.Nat.{◌-◌}
-use mathlib.Core.List.{foldl}
-use mathlib.Core.Logic.{⊎_elim}
 use native.Mathlib.Omega.{arith}
-use borrow.Author.Rules.{rules}
-use Rattle.program.specs.Lookup.{regions_from}
-use Rattle.note.specs.Choice.{chosen_off, chosen_from, release_step}
+use Rattle.note.specs.Choice.{release_step}
 use Rattle.note.proofs.Choosing.{off-start, turn-here, turn-past, turns-over}
-use mathlib.Core.Path.{◌≡◌, ◌∙◌}
+use mathlib.Core.Path.{◌∙◌}
 use Rattle.note.proofs.choice.choose_off.Goals as goal
 use Rattle.note.proofs.choice.choose_off.Goals.{else-holds_key, then-holds_key}
 

@@ -1,6 +1,5 @@
 use Rattle.note.proofs.Choosing.{left_out, put_in}
 use borrow.Author.Tests.{not-true, not-false}
-use borrow.Author.Rules.{rules}
 use Rattle.note.proofs.choice.choose_one.Goals as goal
 
 pub returns-then-not-starts_on : goal.returns-then-not-starts_on

@@ -1,9 +1,7 @@
 use lib.Ieee.{le, lt}
-use borrow.Author.Tests.{not-true, not-false}
 use mathlib.Core.Path.{refl}
 use Rattle.program.proofs.Lookups.{no-and}
 use Rattle.program.proofs.Checks.{after}
-use borrow.Author.Rules.{rules}
 use Rattle.note.proofs.choice.draw_in.Goals as goal
 
 pub returns-then-not-lo-draw : goal.returns-then-not-lo-draw

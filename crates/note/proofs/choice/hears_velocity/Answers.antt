@@ -1,7 +1,6 @@
 use mathlib.Core.Path.{refl, ap}
 use Rattle.program.specs.declared.region.Window.{Window}
 use Rattle.program.proofs.Lookups.{below-it, not-below}
-use borrow.Author.Rules.{rules}
 use Rattle.note.proofs.choice.hears_velocity.Goals as goal
 
 pub returns-then-vel-w : goal.returns-then-vel-w

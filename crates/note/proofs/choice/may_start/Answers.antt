@@ -4,7 +4,6 @@ use borrow.Author.Tests.{not-true, not-false}
 use Rattle.program.specs.declared.region.Choice.{Choice}
 use Rattle.program.proofs.Lookups.{no-and}
 use Rattle.program.proofs.Checks.{after}
-use borrow.Author.Rules.{rules}
 use Rattle.note.proofs.choice.may_start.Goals as goal
 
 pub returns-then-not-on : goal.returns-then-not-on

@@ -1,6 +1,5 @@
 use Rattle.note.proofs.Choosing.{not-released, released}
 use borrow.Author.Tests.{not-true, not-false}
-use borrow.Author.Rules.{rules}
 use Rattle.note.proofs.choice.release_one.Goals as goal
 
 pub returns-then-not-starts_off : goal.returns-then-not-starts_off

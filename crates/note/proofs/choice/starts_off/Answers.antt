@@ -1,6 +1,5 @@
 use Rattle.note.proofs.Choosing.{off-kept, off-late}
 use borrow.Author.Tests.{not-true, not-false}
-use borrow.Author.Rules.{rules}
 use Rattle.note.proofs.choice.starts_off.Goals as goal
 
 pub returns-then-not-may_start : goal.returns-then-not-may_start

@@ -1,6 +1,5 @@
 use Rattle.note.proofs.Choosing.{on-late, on-kept}
 use borrow.Author.Tests.{not-true, not-false}
-use borrow.Author.Rules.{rules}
 use Rattle.note.proofs.choice.starts_on.Goals as goal
 
 pub returns-then-not-triggered_on : goal.returns-then-not-triggered_on

@@ -2,7 +2,6 @@ use Rattle.session.specs.State.{seq_stepped}
 use Rattle.note.specs.Choice.{length_of, position_of}
 use mathlib.Core.Path.{ap, ◌∙◌}
 use Rattle.program.specs.declared.region.Choice.{Choice}
-use borrow.Author.Rules.{rules}
 use Rattle.note.proofs.choice.step_region.Goals as goal
 
 pub returns : goal.returns

@@ -1,4 +1,3 @@
-use borrow.Author.Rules.{rules}
 use Rattle.note.proofs.choice.triggered_off.Goals as goal
 
 pub returns-in-Release : goal.returns-in-Release

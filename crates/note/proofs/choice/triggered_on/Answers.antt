@@ -1,4 +1,3 @@
-use borrow.Author.Rules.{rules}
 use Rattle.note.proofs.choice.triggered_on.Goals as goal
 
 pub returns-in-First : goal.returns-in-First

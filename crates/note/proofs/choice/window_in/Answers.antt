@@ -1,6 +1,5 @@
 use mathlib.Core.Path.{ap}
 use Rattle.program.specs.declared.region.Window.{Window}
-use borrow.Author.Rules.{rules}
 use Rattle.note.proofs.choice.window_in.Goals as goal
 
 pub returns : goal.returns

@@ -1,5 +1,4 @@
 use Rattle.player.specs.Pitch.{pitched}
-use borrow.Author.Rules.{rules}
 use Rattle.player.proofs.pitch.set_pitch.Goals as goal
 
 pub returns-then-step-cold : goal.returns-then-step-cold

@@ -1,5 +1,4 @@
 use Rattle.player.specs.Pitch.{step_of}
-use borrow.Author.Rules.{rules}
 use Rattle.player.proofs.pitch.step_of.Goals as goal
 
 pub returns : goal.returns

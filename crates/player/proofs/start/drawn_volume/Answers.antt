@@ -1,5 +1,4 @@
 use Rattle.player.specs.Start.{drawn_volume}
-use borrow.Author.Rules.{rules}
 use Rattle.player.proofs.start.drawn_volume.Goals as goal
 
 pub returns-then-level : goal.returns-then-level

@@ -1,5 +1,4 @@
 use Rattle.player.specs.Start.{fade_frames}
-use borrow.Author.Rules.{rules}
 use Rattle.player.proofs.start.fade_frames.Goals as goal
 
 pub returns : goal.returns

@@ -1,5 +1,4 @@
 use Rattle.player.specs.Start.{gain_of}
-use borrow.Author.Rules.{rules}
 use Rattle.player.proofs.start.gain_of.Goals as goal
 
 pub returns : goal.returns

@@ -1,6 +1,5 @@
 use native.Mathlib.Omega.{arith}
 use Rattle.player.specs.Start.{last_of}
-use borrow.Author.Rules.{rules}
 use Rattle.player.proofs.start.last_of.Goals as goal
 
 pub returns-in-Absent : goal.returns-in-Absent

@@ -1,6 +1,5 @@
 use native.Mathlib.Omega.{arith}
 use Rattle.player.specs.Start.{fade_frames, loop_at}
-use borrow.Author.Rules.{rules}
 use Rattle.player.proofs.start.loop_at.Goals as goal
 
 pub overflow_sub-result-2 : goal.overflow_sub-result-2

@@ -5,7 +5,6 @@ use lib.Dec.{T, leb→le}
 use Rattle.player.specs.Start.{loop_of}
 use Rattle.program.specs.Valid.{loop_in_order}
 use Rattle.program.specs.declared.region.LoopPoints.{LoopPoints}
-use borrow.Author.Rules.{rules}
 use Rattle.player.proofs.start.loop_of.Goals as goal
 
 pub loop_at-l-requires : goal.loop_at-l-requires

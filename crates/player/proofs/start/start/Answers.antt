@@ -1,5 +1,4 @@
 use Rattle.player.specs.Start.{started_player}
-use borrow.Author.Rules.{rules}
 use Rattle.player.proofs.start.start.Goals as goal
 
 pub returns : goal.returns

@@ -1,5 +1,4 @@
 use Rattle.player.specs.Start.{volume_of}
-use borrow.Author.Rules.{rules}
 use Rattle.player.proofs.start.volume_of.Goals as goal
 
 pub returns-then-on_release : goal.returns-then-on_release

@@ -1,4 +1,3 @@
-use borrow.Author.Rules.{rules}
 use Rattle.player_checks.specs.Sound.{frame_count}
 use borrow.Author.Tests.{eq-eqb, ne_eqb}
 use Rattle.player_checks.proofs.check.frame_count.Goals as goal

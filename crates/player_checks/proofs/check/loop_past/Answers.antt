@@ -1,4 +1,3 @@
-use borrow.Author.Rules.{rules}
 use mathlib.Core.Path.{ap, sym}
 use Rattle.player_checks.specs.Sound.{loop_past}
 use Rattle.player_checks.proofs.check.loop_past.Goals as goal

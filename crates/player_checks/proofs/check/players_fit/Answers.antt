@@ -1,4 +1,3 @@
-use borrow.Author.Rules.{rules}
 use Prim.Native.Nat.{◌-◌, ◌≤◌}
 use mathlib.Core.Path.{◌≡◌, refl, sym, ap, ◌∙◌}
 use native.Mathlib.Omega.{arith}
@@ -6,10 +5,10 @@ use borrow.Author.Tests.{not-true, not-false}
 use mathlib.Core.List.{map}
 use lib.ListN.{length, take}
 use Rattle.program.specs.Valid.{every}
-use Rattle.session.proofs.Walks.{long, used-below}
+use Rattle.session.proofs.Walks.{used-below}
 use Rattle.players.specs.Seats.{no_player}
 use Rattle.player_checks.specs.Sound.{player_fits, players_fit}
-use Rattle.players.proofs.Passing.{left_of, passes, fails, ends}
+use Rattle.players.proofs.Passing.{passes, fails, ends}
 use Rattle.player_checks.proofs.check.players_fit.Goals as goal
 
 pub loop-k-init : goal.loop-k-init

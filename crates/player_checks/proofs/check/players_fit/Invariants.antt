@@ -1,15 +1,10 @@
-use borrow.Author.Rules.{rules}
 use Prim.Native.Nat.{◌-◌, ◌≤◌}
-use mathlib.Core.Path.{◌≡◌, refl, sym, ap, ◌∙◌}
-use native.Mathlib.Omega.{arith}
-use borrow.Author.Tests.{not-true, not-false}
+use mathlib.Core.Path.{◌≡◌}
 use mathlib.Core.List.{map}
 use lib.ListN.{length, take}
 use Rattle.program.specs.Valid.{every}
-use Rattle.session.proofs.Walks.{long, used-below}
-use Rattle.players.specs.Seats.{no_player}
-use Rattle.player_checks.specs.Sound.{player_fits, players_fit}
-use Rattle.players.proofs.Passing.{left_of, passes, fails, ends}
+use Rattle.player_checks.specs.Sound.{player_fits}
+use Rattle.players.proofs.Passing.{left_of}
 use Rattle.player_checks.proofs.check.players_fit.Given as goal
 
 abbrev pub invariant-loop-k : goal.invariant-loop-k

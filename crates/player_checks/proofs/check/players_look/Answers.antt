@@ -1,12 +1,10 @@
-use borrow.Author.Rules.{rules}
 use Prim.Native.Nat.{◌-◌, ◌≤◌}
 use mathlib.Core.Bool.{true≢false}
-use mathlib.Core.Path.{◌≡◌, sym, ◌∙◌}
+use mathlib.Core.Path.{sym, ◌∙◌}
 use native.Mathlib.Omega.{arith}
 use borrow.Author.Tests.{not-true, not-false}
-use lib.ListN.{length}
-use Rattle.session.proofs.Walks.{long, used-below}
-use Rattle.player_checks.proofs.Looking.{Looking, looking-none, looking-on, looking-out, looking-past, looking-done}
+use Rattle.session.proofs.Walks.{used-below}
+use Rattle.player_checks.proofs.Looking.{looking-none, looking-on, looking-out, looking-past, looking-done}
 use Rattle.player_checks.proofs.check.players_look.Goals as goal
 
 pub loop-k-init : goal.loop-k-init

@@ -1,4 +1,3 @@
-use borrow.Author.Rules.{rules}
 use mathlib.Core.Path.{ap, sym, ◌∙◌}
 use mathlib.Core.Bool.{not}
 use Rattle.player_checks.specs.Sound.{sample_fits, sample_tests, loop_past, last_past}

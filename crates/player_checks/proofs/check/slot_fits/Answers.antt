@@ -1,4 +1,3 @@
-use borrow.Author.Rules.{rules}
 use mathlib.Core.Path.{ap}
 use lib.Dec.{leb}
 use Rattle.player_checks.proofs.check.slot_fits.Goals as goal

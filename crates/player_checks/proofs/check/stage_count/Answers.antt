@@ -1,4 +1,3 @@
-use borrow.Author.Rules.{rules}
 use mathlib.Core.Path.{ap, sym}
 use Rattle.filter.specs.Filter.{stage_count}
 use Rattle.player_checks.proofs.check.stage_count.Goals as goal

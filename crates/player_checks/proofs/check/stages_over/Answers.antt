@@ -1,4 +1,3 @@
-use borrow.Author.Rules.{rules}
 use Prim.Native.Nat.{◌-◌, ◌≤◌}
 use mathlib.Core.Path.{◌≡◌, sym, ap, ◌∙◌}
 use mathlib.Core.Bool.{not}
@@ -9,9 +8,8 @@ use lib.ListN.{length}
 use lib.Seq.{take_all}
 use Rattle.filter.specs.declared.FilterShape.TheVariants.{Off}
 use Rattle.program.specs.Valid.{every}
-use Rattle.session.proofs.Walks.{long}
 use Rattle.player_checks.specs.Sound.{slot_fits, stages_over}
-use Rattle.players.proofs.Passing.{left_of, passes, fails, ends}
+use Rattle.players.proofs.Passing.{passes, fails, ends}
 use Rattle.player_checks.proofs.check.stages_over.Goals as goal
 
 pub loop-k-init : goal.loop-k-init

@@ -1,5 +1,4 @@
 use Rattle.players.specs.Gate.{hears_gate}
-use borrow.Author.Rules.{rules}
 use Rattle.players.proofs.gate.hears_gate.Goals as goal
 
 pub returns-then-p : goal.returns-then-p

@@ -1,4 +1,3 @@
-use borrow.Author.Rules.{rules}
 use Rattle.players.proofs.gate.let_go.Goals as goal
 
 pub returns : goal.returns

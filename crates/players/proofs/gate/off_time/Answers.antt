@@ -2,7 +2,6 @@ use mathlib.Core.Path.{ap, sym}
 use lib.Ieee.{of_bits}
 use Rattle.program.specs.declared.region.OffMode.{OffMode}
 use Rattle.players.specs.Gate.{off_time_of}
-use borrow.Author.Rules.{rules}
 use Rattle.players.proofs.gate.off_time.Goals as goal
 
 pub returns-in-Fast : goal.returns-in-Fast

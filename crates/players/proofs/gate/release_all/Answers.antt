@@ -1,15 +1,11 @@
-use Prim.Native.Nat.{◌-◌, ◌≤◌}
-use mathlib.Core.Logic.{⊎_elim}
-use mathlib.Core.Path.{◌≡◌, ◌∙◌, refl, sym, subst}
+use Prim.Native.Nat.{◌-◌}
+use mathlib.Core.Path.{◌∙◌, refl, sym, subst}
 use native.Mathlib.Omega.{arith}
-use borrow.Author.Rules.{rules}
-use lib.ListN.{length, take}
-use Rattle.session.specs.Lists.{any, change_if}
 use Rattle.players.specs.declared.Released.{Released}
 use Rattle.players.specs.Seats.{PlayersOk}
 use Rattle.players.specs.Gate.{hears_gate, let_go}
 use Rattle.players.proofs.Kept.{released-all-ok}
-use Rattle.players.proofs.Places.{done_to, ends, killed-hit, killed-miss, released-done, untouched, walk-hit, walk-miss}
+use Rattle.players.proofs.Places.{killed-hit, killed-miss, released-done, untouched, walk-hit, walk-miss}
 use Rattle.players.proofs.gate.release_all.Goals as goal
 use Rattle.players.proofs.gate.release_all.Goals.{else-hears_gate, then-hears_gate}
 

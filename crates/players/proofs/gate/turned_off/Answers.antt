@@ -1,5 +1,4 @@
 use Rattle.players.specs.Gate.{turned_off}
-use borrow.Author.Rules.{rules}
 use Rattle.players.proofs.gate.turned_off.Goals as goal
 
 pub returns : goal.returns

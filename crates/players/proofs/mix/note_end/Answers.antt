@@ -1,4 +1,3 @@
-use borrow.Author.Rules.{rules}
 use Rattle.players.specs.Mix.{noted}
 use Rattle.players.proofs.mix.note_end.Goals as goal
 

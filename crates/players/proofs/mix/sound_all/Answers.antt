@@ -1,10 +1,7 @@
-use borrow.Author.Rules.{rules}
-use Prim.Native.Nat.{◌-◌, ◌≤◌}
-use mathlib.Core.Logic.{⊎_elim}
-use mathlib.Core.Path.{◌≡◌, refl, sym, ◌∙◌}
+use Prim.Native.Nat.{◌-◌}
+use mathlib.Core.Path.{refl, sym, ◌∙◌}
 use native.Mathlib.Omega.{arith}
-use lib.ListN.{length}
-use Rattle.players.proofs.Bands.{Going, over-hit, over-miss, going-none, going_fine, going-room, going_on, going-ok, going-over, going_done}
+use Rattle.players.proofs.Bands.{over-hit, over-miss, going-none, going_fine, going-room, going_on, going-ok, going-over, going_done}
 use Rattle.players.proofs.mix.sound_all.Goals as goal
 use Rattle.players.proofs.mix.sound_all.Goals.{else-is_over, then-is_over}
 

@@ -1,4 +1,3 @@
-use borrow.Author.Rules.{rules}
 use mathlib.Core.Path.{ap, ◌∙◌}
 use Rattle.player.specs.declared.Player.{Player}
 use Rattle.segments.specs.Segment.{played_by}

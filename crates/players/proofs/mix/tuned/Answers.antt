@@ -1,4 +1,3 @@
-use borrow.Author.Rules.{rules}
 use Rattle.players.proofs.Tuning.{tuned-moves, tuned-stays, tuned-off}
 use Rattle.players.proofs.mix.tuned.Goals as goal
 

@@ -1,7 +1,4 @@
 use Rattle.program.proofs.Binding.{too-many-regions, too-many-samples, counts-last}
-use borrow.Author.Tests.{eq-eqb, ne_eqb, lt-leb, le-leb, lt-ltb, le-ltb, not-true, not-false}
-use mathlib.Core.Path.{◌≡◌, refl, sym, ap, ◌∙◌}
-use borrow.Author.Rules.{rules}
 use Rattle.program.proofs.bind.all_counts_ok.Goals as goal
 
 pub returns-then-n-gt256 : goal.returns-then-n-gt256

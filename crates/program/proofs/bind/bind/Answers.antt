@@ -1,10 +1,10 @@
 use Rattle.program.proofs.Binding.{few-regions, few-samples, few-parts, refused-1, refused-2, refused-3, refused-4, done}
 use lib.ListN.{length}
 use native.Mathlib.Nat.{div-mul-le_self}
-use Prim.Native.Nat.{ℕ, ◌+◌, ◌-◌, ◌*◌, ◌≤◌, ◌<◌}
+use Prim.Native.Nat.{◌-◌}
 use native.Mathlib.Omega.{arith}
-use borrow.Author.Tests.{eq-eqb, ne_eqb, lt-leb, le-leb, lt-ltb, le-ltb, not-true, not-false}
-use mathlib.Core.Path.{◌≡◌, refl, sym, ap, ◌∙◌}
+use borrow.Author.Tests.{not-true, not-false}
+use mathlib.Core.Path.{sym, ◌∙◌}
 use Rattle.program.proofs.bind.bind.Goals as goal
 
 pub returns-then-not-all_counts_ok : goal.returns-then-not-all_counts_ok

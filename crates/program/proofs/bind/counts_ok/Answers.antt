@@ -4,12 +4,10 @@ use Rattle.program.proofs.Words.{there, part_length}
 use Rattle.program.proofs.Checks.{fails, passes, ends}
 use native.Mathlib.Nat.{sub-zero}
 use mathlib.Core.List.{map}
-use lib.ListN.{length, take, drop}
-use borrow.Author.Rules.{rules}
-use Prim.Native.Nat.{ℕ, ◌+◌, ◌-◌, ◌*◌, ◌≤◌, ◌<◌}
+use Prim.Native.Nat.{◌-◌}
 use native.Mathlib.Omega.{arith}
-use borrow.Author.Tests.{eq-eqb, ne_eqb, lt-leb, le-leb, lt-ltb, le-ltb, not-true, not-false}
-use mathlib.Core.Path.{◌≡◌, refl, sym, ap, ◌∙◌}
+use borrow.Author.Tests.{not-true, not-false}
+use mathlib.Core.Path.{refl, sym, ap, ◌∙◌}
 use Rattle.program.proofs.bind.counts_ok.Goals as goal
 
 pub loop-i-init : goal.loop-i-init

@@ -1,15 +1,12 @@
-use Rattle.program.specs.Bind.{indexes, counts_in, region_in, first_bad}
-use Rattle.program.specs.Valid.{every, valid_region}
+use Rattle.program.specs.Bind.{counts_in, region_in, first_bad}
+use Rattle.program.specs.Valid.{valid_region}
 use Rattle.program.proofs.Words.{there, part_length}
 use Rattle.program.proofs.Binding.{bad-here, bad-later, bad-none, every-index, counts-known}
 use native.Mathlib.Nat.{sub-zero}
-use mathlib.Core.List.{map}
-use lib.ListN.{length, take, drop}
-use borrow.Author.Rules.{rules}
-use Prim.Native.Nat.{ℕ, ◌+◌, ◌-◌, ◌*◌, ◌≤◌, ◌<◌}
+use Prim.Native.Nat.{◌-◌}
 use native.Mathlib.Omega.{arith}
-use borrow.Author.Tests.{eq-eqb, ne_eqb, lt-leb, le-leb, lt-ltb, le-ltb, not-true, not-false}
-use mathlib.Core.Path.{◌≡◌, refl, sym, ap, ◌∙◌}
+use borrow.Author.Tests.{not-true, not-false}
+use mathlib.Core.Path.{sym, ap, ◌∙◌}
 use Rattle.program.proofs.bind.first_bad_region.Goals as goal
 
 pub loop-i-init : goal.loop-i-init

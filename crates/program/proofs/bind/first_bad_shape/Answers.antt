@@ -1,12 +1,12 @@
-use Rattle.program.specs.Bind.{first_bad, sample_in, shape_in}
-use Rattle.program.specs.Sample.{sample_tests, shape_tests}
+use Rattle.program.specs.Bind.{first_bad, shape_in}
+use Rattle.program.specs.Sample.{shape_tests}
 use Rattle.program.specs.Valid.{every}
 use Rattle.program.proofs.Binding.{bad-here, bad-later, bad-none}
 use native.Mathlib.Nat.{sub-zero}
-use Prim.Native.Nat.{ℕ, ◌+◌, ◌-◌, ◌*◌, ◌≤◌, ◌<◌}
+use Prim.Native.Nat.{◌-◌}
 use native.Mathlib.Omega.{arith}
-use borrow.Author.Tests.{eq-eqb, ne_eqb, lt-leb, le-leb, lt-ltb, le-ltb, not-true, not-false}
-use mathlib.Core.Path.{◌≡◌, refl, sym, ap, ◌∙◌}
+use borrow.Author.Tests.{not-true, not-false}
+use mathlib.Core.Path.{sym, ap, ◌∙◌}
 use Rattle.program.proofs.bind.first_bad_shape.Goals as goal
 
 pub loop-j-init : goal.loop-j-init

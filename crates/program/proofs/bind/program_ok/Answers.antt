@@ -3,11 +3,9 @@ use Rattle.program.proofs.Binding.{few-parts, some-region, no-region, by-shapes}
 use Rattle.program.proofs.Checks.{every-no, after, final}
 use lib.ListN.{length}
 use native.Mathlib.Nat.{div-mul-le_self}
-use Prim.Native.Nat.{ℕ, ◌+◌, ◌-◌, ◌*◌, ◌≤◌, ◌<◌}
-use native.Mathlib.Omega.{arith}
-use borrow.Author.Tests.{eq-eqb, ne_eqb, lt-leb, le-leb, lt-ltb, le-ltb, not-true, not-false}
-use mathlib.Core.Path.{◌≡◌, refl, sym, ap, ◌∙◌}
-use borrow.Author.Rules.{rules}
+use Prim.Native.Nat.{◌-◌}
+use borrow.Author.Tests.{eq-eqb, ne_eqb, lt-leb, le-leb, not-true, not-false}
+use mathlib.Core.Path.{sym, ◌∙◌}
 use Rattle.program.proofs.bind.program_ok.Goals as goal
 
 pub returns-then-n-b : goal.returns-then-n-b

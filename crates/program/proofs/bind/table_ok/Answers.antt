@@ -1,12 +1,10 @@
 use Rattle.program.specs.Bind.{table_ok}
 use Rattle.program.specs.Valid.{all_finite}
-use native.Mathlib.Nat.{le_of_eq}
-use lib.Dec.{eqb}
 use mathlib.Core.Bool.{◌&&◌}
 use lib.Seq.{take_all}
 use native.Mathlib.Omega.{arith}
-use borrow.Author.Tests.{eq-eqb, ne_eqb, lt-leb, le-leb, lt-ltb, le-ltb, not-true, not-false}
-use mathlib.Core.Path.{◌≡◌, refl, sym, ap, ◌∙◌}
+use borrow.Author.Tests.{eq-eqb, ne_eqb}
+use mathlib.Core.Path.{sym, ap, ◌∙◌}
 use Rattle.program.proofs.bind.table_ok.Goals as goal
 
 pub returns-then-table-ne8194 : goal.returns-then-table-ne8194

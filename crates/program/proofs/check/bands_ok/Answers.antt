@@ -1,12 +1,12 @@
 use native.Mathlib.Nat.{sub-zero}
-use Rattle.program.specs.Valid.{all_finite, band_numbers, bands_finite}
-use Rattle.program.specs.Region.{float_of, region_of, band_of}
+use Rattle.program.specs.Valid.{all_finite, band_numbers}
+use Rattle.program.specs.Region.{band_of}
 use Rattle.program.proofs.Checks.{fails, passes, ends, BandsFrom, bands-are, band-run}
 use lib.ListN.{get_or}
 use native.Mathlib.Omega.{arith}
-use Prim.Native.Nat.{ℕ, ◌+◌, ◌-◌, ◌*◌, ◌≤◌, ◌<◌}
-use borrow.Author.Tests.{eq-eqb, ne_eqb, lt-leb, le-leb, lt-ltb, le-ltb, not-true, not-false}
-use mathlib.Core.Path.{◌≡◌, refl, sym, ap, ◌∙◌}
+use Prim.Native.Nat.{◌-◌}
+use borrow.Author.Tests.{not-true, not-false}
+use mathlib.Core.Path.{refl, sym, ap, ◌∙◌}
 use Rattle.program.proofs.check.bands_ok.Goals as goal
 
 pub loop-k-init : goal.loop-k-init

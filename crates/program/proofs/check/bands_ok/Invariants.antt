@@ -1,12 +1,9 @@
-use native.Mathlib.Nat.{sub-zero}
-use Rattle.program.specs.Valid.{all_finite, band_numbers, bands_finite}
-use Rattle.program.specs.Region.{float_of, region_of, band_of}
-use Rattle.program.proofs.Checks.{fails, passes, ends, BandsFrom, bands-are, band-run}
+use Rattle.program.specs.Valid.{bands_finite}
+use Rattle.program.specs.Region.{region_of}
+use Rattle.program.proofs.Checks.{BandsFrom}
 use lib.ListN.{get_or}
-use native.Mathlib.Omega.{arith}
-use Prim.Native.Nat.{ℕ, ◌+◌, ◌-◌, ◌*◌, ◌≤◌, ◌<◌}
-use borrow.Author.Tests.{eq-eqb, ne_eqb, lt-leb, le-leb, lt-ltb, le-ltb, not-true, not-false}
-use mathlib.Core.Path.{◌≡◌, refl, sym, ap, ◌∙◌}
+use Prim.Native.Nat.{◌+◌, ◌-◌, ◌*◌, ◌≤◌}
+use mathlib.Core.Path.{◌≡◌}
 use Rattle.program.proofs.check.bands_ok.Given as goal
 
 abbrev pub invariant-loop-k : goal.invariant-loop-k

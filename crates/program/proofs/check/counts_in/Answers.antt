@@ -1,8 +1,7 @@
 use Rattle.program.specs.Valid.{counts_tests}
 use Rattle.program.proofs.Checks.{every-no, after, final}
-use borrow.Author.Tests.{eq-eqb, ne_eqb, lt-leb, le-leb, lt-ltb, le-ltb, not-true, not-false}
-use mathlib.Core.Path.{◌≡◌, refl, sym, ap, ◌∙◌}
-use borrow.Author.Rules.{rules}
+use borrow.Author.Tests.{lt-leb, le-leb}
+use mathlib.Core.Path.{refl}
 use Rattle.program.proofs.check.counts_in.Goals as goal
 
 pub returns-then-r-gt6 : goal.returns-then-r-gt6

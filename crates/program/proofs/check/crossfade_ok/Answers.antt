@@ -1,7 +1,5 @@
 use Rattle.program.specs.Region.{crossfade_of}
-use mathlib.Core.Path.{◌≡◌, refl, sym, ap, ◌∙◌}
-use borrow.Author.Tests.{eq-eqb, ne_eqb, lt-leb, le-leb, lt-ltb, le-ltb, not-true, not-false}
-use borrow.Author.Rules.{rules}
+use borrow.Author.Tests.{eq-eqb, ne_eqb}
 use Rattle.program.proofs.check.crossfade_ok.Goals as goal
 
 pub returns-then-r-eq0 : goal.returns-then-r-eq0

@@ -1,12 +1,9 @@
-use native.Mathlib.Nat.{sub-zero}
-use Rattle.program.specs.Valid.{all_finite, filter_numbers, filters_finite}
-use Rattle.program.specs.Region.{float_of, region_of, filter_of}
-use Rattle.program.proofs.Checks.{fails, passes, ends, FiltersFrom, filters-are, filter-run}
+use Rattle.program.specs.Valid.{filters_finite}
+use Rattle.program.specs.Region.{region_of}
+use Rattle.program.proofs.Checks.{FiltersFrom}
 use lib.ListN.{get_or}
-use native.Mathlib.Omega.{arith}
-use Prim.Native.Nat.{ℕ, ◌+◌, ◌-◌, ◌*◌, ◌≤◌, ◌<◌}
-use borrow.Author.Tests.{eq-eqb, ne_eqb, lt-leb, le-leb, lt-ltb, le-ltb, not-true, not-false}
-use mathlib.Core.Path.{◌≡◌, refl, sym, ap, ◌∙◌}
+use Prim.Native.Nat.{◌+◌, ◌-◌, ◌*◌, ◌≤◌}
+use mathlib.Core.Path.{◌≡◌}
 use Rattle.program.proofs.check.filters_ok.Given as goal
 
 abbrev pub invariant-loop-k : goal.invariant-loop-k

@@ -1,11 +1,7 @@
-use Rattle.program.proofs.Finite.{Worst, worst-none, worse, no-worse, worst-done, finite-bits}
-use Rattle.program.specs.Region.{float_of, byte_of}
+use Rattle.program.proofs.Finite.{Worst, finite-bits}
+use Rattle.program.specs.Region.{float_of}
 use Rattle.program.specs.Valid.{is_finite}
-use Prim.Native.Nat.{ℕ, ◌≤◌, ◌-◌, ◌%◌}
-use mathlib.Core.Logic.{⊎_elim}
-use lib.Dec.{leb}
-use native.Mathlib.Omega.{arith}
-use borrow.Author.Rules.{rules}
+use Prim.Native.Nat.{◌≤◌, ◌-◌, ◌%◌}
 use Rattle.program.proofs.check.finite_run.Given as goal
 
 abbrev pub invariant-loop-k : goal.invariant-loop-k

@@ -2,9 +2,8 @@ use Rattle.program.specs.Region.{region_of}
 use Rattle.program.specs.Valid.{every, window_tests}
 use mathlib.Core.Bool.{◌&&◌}
 use Rattle.program.proofs.Checks.{keys-are}
-use borrow.Author.Tests.{eq-eqb, ne_eqb, lt-leb, le-leb, lt-ltb, le-ltb, not-true, not-false}
-use mathlib.Core.Path.{◌≡◌, refl, sym, ap, ◌∙◌}
-use borrow.Author.Rules.{rules}
+use borrow.Author.Tests.{not-true, not-false}
+use mathlib.Core.Path.{sym, ap, ◌∙◌}
 use Rattle.program.proofs.check.keys_ok.Goals as goal
 
 pub returns-then-not-keys_run : goal.returns-then-not-keys_run

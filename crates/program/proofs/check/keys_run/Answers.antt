@@ -1,11 +1,8 @@
-use Rattle.program.proofs.Finite.{Worst, worst-none, worse, no-worse, worst-done, key-word}
-use Rattle.program.specs.Region.{float_of, byte_of}
-use Rattle.program.specs.Valid.{is_finite}
-use Prim.Native.Nat.{ℕ, ◌≤◌, ◌-◌, ◌%◌}
-use mathlib.Core.Logic.{⊎_elim}
+use Rattle.program.proofs.Finite.{worst-none, worse, no-worse, worst-done, key-word}
+use Rattle.program.specs.Region.{byte_of}
+use Prim.Native.Nat.{◌-◌}
 use lib.Dec.{leb}
 use native.Mathlib.Omega.{arith}
-use borrow.Author.Rules.{rules}
 use Rattle.program.proofs.check.keys_run.Goals as goal
 use Rattle.program.proofs.check.keys_run.Goals.{else-worst-w, then-worst-w}
 

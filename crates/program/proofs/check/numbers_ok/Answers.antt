@@ -1,9 +1,8 @@
-use Rattle.program.specs.Valid.{every, number_tests}
+use Rattle.program.specs.Valid.{number_tests}
 use Rattle.program.specs.Region.{region_of, pitch_of, envelope_of, choke_of, playback_of, level_of, choice_of}
 use Rattle.program.proofs.Checks.{every-no, after, final}
-use borrow.Author.Tests.{eq-eqb, ne_eqb, lt-leb, le-leb, lt-ltb, le-ltb, not-true, not-false}
-use mathlib.Core.Path.{◌≡◌, refl, sym, ap, ◌∙◌}
-use borrow.Author.Rules.{rules}
+use borrow.Author.Tests.{not-true, not-false}
+use mathlib.Core.Path.{sym, ◌∙◌}
 use Rattle.program.proofs.check.numbers_ok.Goals as goal
 
 pub returns-then-not-finite_run : goal.returns-then-not-finite_run

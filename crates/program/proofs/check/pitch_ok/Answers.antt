@@ -1,10 +1,8 @@
-use Rattle.program.specs.Valid.{every, pitch_tests}
+use Rattle.program.specs.Valid.{pitch_tests}
 use Rattle.program.specs.Region.{region_of, pitch_of}
-use Rattle.program.proofs.Finite.{and-true}
 use Rattle.program.proofs.Checks.{every-no, after}
-use borrow.Author.Tests.{eq-eqb, ne_eqb, lt-leb, le-leb, lt-ltb, le-ltb, not-true, not-false}
-use mathlib.Core.Path.{◌≡◌, refl, sym, ap, ◌∙◌}
-use borrow.Author.Rules.{rules}
+use borrow.Author.Tests.{not-true, not-false}
+use mathlib.Core.Path.{sym, ◌∙◌}
 use Rattle.program.proofs.check.pitch_ok.Goals as goal
 
 pub returns-then-not-within_1200 : goal.returns-then-not-within_1200

@@ -1,8 +1,7 @@
-use Rattle.program.specs.Valid.{every, point_tests}
+use Rattle.program.specs.Valid.{point_tests}
 use Rattle.program.proofs.Checks.{every-no, final, after}
-use borrow.Author.Tests.{eq-eqb, ne_eqb, lt-leb, le-leb, lt-ltb, le-ltb, not-true, not-false}
-use mathlib.Core.Path.{◌≡◌, refl, sym, ap, ◌∙◌}
-use borrow.Author.Rules.{rules}
+use borrow.Author.Tests.{not-true, not-false}
+use mathlib.Core.Path.{sym, ◌∙◌}
 use Rattle.program.proofs.check.points_ok.Goals as goal
 
 pub returns-then-not-keys_run : goal.returns-then-not-keys_run

@@ -1,9 +1,8 @@
-use Rattle.program.specs.Valid.{every, region_tests, valid_region}
+use Rattle.program.specs.Valid.{region_tests, valid_region}
 use Rattle.program.specs.Region.{region_of, playback_of, choice_of}
 use Rattle.program.proofs.Checks.{every-no, after, final}
-use borrow.Author.Tests.{eq-eqb, ne_eqb, lt-leb, le-leb, lt-ltb, le-ltb, not-true, not-false}
-use mathlib.Core.Path.{◌≡◌, refl, sym, ap, ◌∙◌}
-use borrow.Author.Rules.{rules}
+use borrow.Author.Tests.{not-true, not-false}
+use mathlib.Core.Path.{sym, ◌∙◌}
 use Rattle.program.proofs.check.region_ok.Goals as goal
 
 pub returns-then-not-keys_ok : goal.returns-then-not-keys_ok

@@ -1,4 +1,4 @@
-use borrow.Author.Tests.{eq-eqb, ne_eqb, lt-leb, le-leb, lt-ltb, le-ltb, not-true, not-false}
+use borrow.Author.Tests.{eq-eqb, ne_eqb}
 use Rattle.program.proofs.check.sample_ok.Goals as goal
 
 pub returns-then-s-eq4294967295 : goal.returns-then-s-eq4294967295

@@ -1,7 +1,5 @@
 use Rattle.program.proofs.Checks.{zero-position, some-position}
-use native.Mathlib.Omega.{arith}
-use borrow.Author.Tests.{eq-eqb, ne_eqb, lt-leb, le-leb, lt-ltb, le-ltb, not-true, not-false}
-use borrow.Author.Rules.{rules}
+use borrow.Author.Tests.{eq-eqb, ne_eqb}
 use Rattle.program.proofs.check.seq_ok.Goals as goal
 
 pub returns-then-r-eq0 : goal.returns-then-r-eq0

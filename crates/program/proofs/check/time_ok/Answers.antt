@@ -1,4 +1,3 @@
-use mathlib.Core.Path.{◌≡◌, refl, sym, ap, ◌∙◌}
 use Rattle.program.proofs.check.time_ok.Goals as goal
 
 pub returns : goal.returns

@@ -1,10 +1,10 @@
-use Rattle.program.specs.Valid.{every, times_tests, not_above}
-use Rattle.program.specs.Region.{float_of, word, region_of}
+use Rattle.program.specs.Valid.{not_above}
+use Rattle.program.specs.Region.{float_of, word}
 use Rattle.program.proofs.Checks.{fails, passes, ends, TimesFrom, times-are}
 use native.Mathlib.Omega.{arith}
-use Prim.Native.Nat.{ℕ, ◌+◌, ◌-◌, ◌*◌, ◌≤◌, ◌<◌}
-use borrow.Author.Tests.{eq-eqb, ne_eqb, lt-leb, le-leb, lt-ltb, le-ltb, not-true, not-false}
-use mathlib.Core.Path.{◌≡◌, refl, sym, ap, ◌∙◌}
+use Prim.Native.Nat.{◌-◌}
+use borrow.Author.Tests.{not-true, not-false}
+use mathlib.Core.Path.{refl, sym, ◌∙◌}
 use Rattle.program.proofs.check.times_ok.Goals as goal
 
 pub loop-k-init : goal.loop-k-init

@@ -1,10 +1,8 @@
-use Rattle.program.specs.Valid.{every, times_tests, not_above}
-use Rattle.program.specs.Region.{float_of, word, region_of}
-use Rattle.program.proofs.Checks.{fails, passes, ends, TimesFrom, times-are}
-use native.Mathlib.Omega.{arith}
-use Prim.Native.Nat.{ℕ, ◌+◌, ◌-◌, ◌*◌, ◌≤◌, ◌<◌}
-use borrow.Author.Tests.{eq-eqb, ne_eqb, lt-leb, le-leb, lt-ltb, le-ltb, not-true, not-false}
-use mathlib.Core.Path.{◌≡◌, refl, sym, ap, ◌∙◌}
+use Rattle.program.specs.Valid.{every, times_tests}
+use Rattle.program.specs.Region.{region_of}
+use Rattle.program.proofs.Checks.{TimesFrom}
+use Prim.Native.Nat.{◌-◌, ◌≤◌}
+use mathlib.Core.Path.{◌≡◌}
 use Rattle.program.proofs.check.times_ok.Given as goal
 
 abbrev pub invariant-loop-k : goal.invariant-loop-k

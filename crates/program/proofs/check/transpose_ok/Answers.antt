@@ -1,8 +1,8 @@
 use Rattle.program.proofs.Checks.{far-down, not-far-down}
 use mir.Syntax.{w32}
 use mir.Facts.{to_z-of_z}
-use borrow.Author.Tests.{eq-eqb, ne_eqb, lt-leb, le-leb, lt-ltb, le-ltb, not-true, not-false}
-use mathlib.Core.Path.{◌≡◌, refl, sym, ap, ◌∙◌}
+use borrow.Author.Tests.{not-true, not-false}
+use mathlib.Core.Path.{◌∙◌}
 use Rattle.program.proofs.check.transpose_ok.Goals as goal
 
 pub returns-then-not-t : goal.returns-then-not-t

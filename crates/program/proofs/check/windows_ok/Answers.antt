@@ -1,8 +1,4 @@
 use Rattle.program.proofs.Checks.{no_keys, some-keys}
-use Rattle.program.proofs.Checks.{every-no}
-use borrow.Author.Tests.{eq-eqb, ne_eqb, lt-leb, le-leb, lt-ltb, le-ltb, not-true, not-false}
-use mathlib.Core.Path.{◌≡◌, refl, sym, ap, ◌∙◌}
-use borrow.Author.Rules.{rules}
 use Rattle.program.proofs.check.windows_ok.Goals as goal
 
 pub returns-then-hi-lo : goal.returns-then-hi-lo

@@ -1,7 +1,7 @@
 use lib.Ieee.{neg, of_bits}
 use Rattle.program.specs.Region.{float_of}
 use Rattle.program.proofs.Checks.{too-low, not_low}
-use mathlib.Core.Path.{◌≡◌, refl, sym, ap, ◌∙◌}
+use mathlib.Core.Path.{refl}
 use Rattle.program.proofs.check.within_1200.Goals as goal
 
 pub returns-then-x : goal.returns-then-x

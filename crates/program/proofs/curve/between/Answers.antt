@@ -1,5 +1,5 @@
-use mathlib.Core.Path.{◌≡◌, refl, sym, ap, ◌∙◌}
-use borrow.Author.Tests.{eq-eqb, ne_eqb, lt-leb, le-leb}
+use mathlib.Core.Path.{refl}
+use borrow.Author.Tests.{lt-leb, le-leb}
 use Rattle.program.proofs.Lookups.{no-and}
 use Rattle.program.proofs.Checks.{after}
 use Rattle.program.proofs.curve.between.Goals as goal

@@ -1,5 +1,4 @@
-use borrow.Author.Tests.{eq-eqb, ne_eqb, lt-leb, le-leb}
-use mathlib.Core.Path.{◌≡◌, refl, sym, ap, ◌∙◌}
+use borrow.Author.Tests.{eq-eqb, ne_eqb}
 use native.Mathlib.Nat.{le_trans}
 use Rattle.program.proofs.curve.blend.Goals as goal
 

@@ -1,4 +1,4 @@
-use borrow.Author.Tests.{eq-eqb, ne_eqb, lt-leb, le-leb}
+use borrow.Author.Tests.{ne_eqb}
 use Rattle.program.proofs.curve.near_first.Goals as goal
 
 pub returns-then-v-eq0 : goal.returns-then-v-eq0

@@ -1,10 +1,9 @@
-use mathlib.Core.Path.{◌≡◌, refl, sym, ap, ◌∙◌}
+use mathlib.Core.Path.{sym, ap, ◌∙◌}
 use native.Mathlib.Omega.{arith}
-use borrow.Author.Rules.{rules}
-use Prim.Native.Nat.{ℕ, ◌+◌, ◌-◌, ◌≤◌}
+use Prim.Native.Nat.{◌+◌, ◌-◌}
 use native.Mathlib.Nat.{sub-zero}
 use Rattle.program.proofs.Curves.{near-more, near-end, point-is}
-use Rattle.program.specs.Curve.{points_from, points_of, near_step, near_of, near_first}
+use Rattle.program.specs.Curve.{points_from, near_of, near_first}
 use Rattle.program.specs.declared.curve.Near.{Near}
 use Rattle.program.proofs.curve.nearest.Goals as goal
 

@@ -1,11 +1,6 @@
-use mathlib.Core.Path.{◌≡◌, refl, sym, ap, ◌∙◌}
-use native.Mathlib.Omega.{arith}
-use borrow.Author.Rules.{rules}
-use Prim.Native.Nat.{ℕ, ◌+◌, ◌-◌, ◌≤◌}
-use native.Mathlib.Nat.{sub-zero}
-use Rattle.program.proofs.Curves.{near-more, near-end, point-is}
-use Rattle.program.specs.Curve.{points_from, points_of, near_step, near_of, near_first}
-use Rattle.program.specs.declared.curve.Near.{Near}
+use mathlib.Core.Path.{◌≡◌}
+use Prim.Native.Nat.{◌-◌, ◌≤◌}
+use Rattle.program.specs.Curve.{points_from, points_of, near_of, near_first}
 use Rattle.program.proofs.curve.nearest.Given as goal
 
 abbrev pub invariant-loop-k : goal.invariant-loop-k

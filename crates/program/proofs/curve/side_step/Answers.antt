@@ -1,4 +1,3 @@
-use borrow.Author.Rules.{rules}
 use Rattle.program.proofs.curve.side_step.Goals as goal
 
 pub returns-then-nearer : goal.returns-then-nearer

@@ -1,7 +1,6 @@
-use mathlib.Core.Path.{◌≡◌, refl, sym, ap, ◌∙◌}
+use mathlib.Core.Path.{ap, ◌∙◌}
 use native.Mathlib.Omega.{arith}
-use borrow.Author.Rules.{rules}
-use Prim.Native.Nat.{ℕ, ◌≤◌}
+use Prim.Native.Nat.{◌≤◌}
 use Rattle.program.proofs.Words.{there, none}
 use Rattle.program.proofs.Curves.{from-below, from-above, on-curve}
 use Rattle.program.specs.Curve.{preset, table_of, points_of, gain_at, velcurve_at}

@@ -1,7 +1,6 @@
 use Rattle.program.specs.Region.{region_of, choice_of}
 use Rattle.program.proofs.Words.{there, none}
-use mathlib.Core.Path.{◌≡◌, refl, sym, ap, ◌∙◌}
-use borrow.Author.Rules.{rules}
+use mathlib.Core.Path.{ap, ◌∙◌}
 use Rattle.program.proofs.lookup.choice_at.Goals as goal
 
 pub returns-then-at-words : goal.returns-then-at-words

@@ -1,7 +1,7 @@
 use Rattle.program.proofs.Checks.{after}
 use Rattle.program.proofs.Lookups.{no-and}
-use borrow.Author.Tests.{eq-eqb, ne_eqb, lt-leb, le-leb, lt-ltb, le-ltb, not-true, not-false}
-use mathlib.Core.Path.{◌≡◌, refl, sym, ap, ◌∙◌}
+use borrow.Author.Tests.{not-true, not-false}
+use mathlib.Core.Path.{sym, ◌∙◌}
 use Rattle.program.proofs.lookup.fires.Goals as goal
 
 pub returns-then-not-holds_key : goal.returns-then-not-holds_key

@@ -1,9 +1,7 @@
-use Rattle.program.specs.Lookup.{has_release_for}
-use Rattle.program.proofs.Lookups.{SomeFrom, fires-first, fires-here, fires-later, fires-none}
-use Prim.Native.Nat.{ℕ, ◌+◌, ◌-◌, ◌*◌, ◌≤◌, ◌<◌}
+use Rattle.program.proofs.Lookups.{fires-first, fires-here, fires-later, fires-none}
+use Prim.Native.Nat.{◌-◌}
 use native.Mathlib.Omega.{arith}
-use borrow.Author.Tests.{eq-eqb, ne_eqb, lt-leb, le-leb, lt-ltb, le-ltb, not-true, not-false}
-use mathlib.Core.Path.{◌≡◌, refl, sym, ap, ◌∙◌}
+use mathlib.Core.Path.{sym, ◌∙◌}
 use Rattle.program.proofs.lookup.has_release_for.Goals as goal
 
 pub loop-i-init : goal.loop-i-init

@@ -1,9 +1,7 @@
 use Rattle.program.specs.Lookup.{has_release_for}
-use Rattle.program.proofs.Lookups.{SomeFrom, fires-first, fires-here, fires-later, fires-none}
-use Prim.Native.Nat.{ℕ, ◌+◌, ◌-◌, ◌*◌, ◌≤◌, ◌<◌}
-use native.Mathlib.Omega.{arith}
-use borrow.Author.Tests.{eq-eqb, ne_eqb, lt-leb, le-leb, lt-ltb, le-ltb, not-true, not-false}
-use mathlib.Core.Path.{◌≡◌, refl, sym, ap, ◌∙◌}
+use Rattle.program.proofs.Lookups.{SomeFrom}
+use Prim.Native.Nat.{◌-◌}
+use mathlib.Core.Path.{◌≡◌}
 use Rattle.program.proofs.lookup.has_release_for.Given as goal
 
 abbrev pub invariant-loop-i : goal.invariant-loop-i

@@ -1,6 +1,6 @@
 use Rattle.program.specs.declared.region.Window.{Window}
 use Rattle.program.proofs.Lookups.{below-it, not-below}
-use mathlib.Core.Path.{◌≡◌, refl, sym, ap, ◌∙◌}
+use mathlib.Core.Path.{ap}
 use Rattle.program.proofs.lookup.holds_key.Goals as goal
 
 pub returns-then-k-w : goal.returns-then-k-w

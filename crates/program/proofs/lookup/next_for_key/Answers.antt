@@ -1,9 +1,7 @@
-use Rattle.program.specs.Lookup.{regions_from, first_of}
 use Rattle.program.proofs.Lookups.{next_here, next-later, next-none}
-use Prim.Native.Nat.{ℕ, ◌+◌, ◌-◌, ◌*◌, ◌≤◌, ◌<◌}
+use Prim.Native.Nat.{◌-◌}
 use native.Mathlib.Omega.{arith}
-use borrow.Author.Tests.{eq-eqb, ne_eqb, lt-leb, le-leb, lt-ltb, le-ltb, not-true, not-false}
-use mathlib.Core.Path.{◌≡◌, refl, sym, ap, ◌∙◌}
+use mathlib.Core.Path.{refl, sym, ◌∙◌}
 use Rattle.program.proofs.lookup.next_for_key.Goals as goal
 
 pub loop-i-init : goal.loop-i-init

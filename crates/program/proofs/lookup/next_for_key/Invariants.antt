@@ -1,9 +1,6 @@
 use Rattle.program.specs.Lookup.{regions_from, first_of}
-use Rattle.program.proofs.Lookups.{next_here, next-later, next-none}
-use Prim.Native.Nat.{ℕ, ◌+◌, ◌-◌, ◌*◌, ◌≤◌, ◌<◌}
-use native.Mathlib.Omega.{arith}
-use borrow.Author.Tests.{eq-eqb, ne_eqb, lt-leb, le-leb, lt-ltb, le-ltb, not-true, not-false}
-use mathlib.Core.Path.{◌≡◌, refl, sym, ap, ◌∙◌}
+use Prim.Native.Nat.{◌-◌}
+use mathlib.Core.Path.{◌≡◌}
 use Rattle.program.proofs.lookup.next_for_key.Given as goal
 
 abbrev pub invariant-loop-i : goal.invariant-loop-i

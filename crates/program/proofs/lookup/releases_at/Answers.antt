@@ -3,8 +3,8 @@ use Rattle.program.proofs.Checks.{after}
 use Rattle.program.proofs.Lookups.{no-and, below-it, not-below}
 use Rattle.program.specs.declared.region.Window.{Window}
 use Rattle.program.specs.declared.region.Choice.{Choice}
-use borrow.Author.Tests.{eq-eqb, ne_eqb, lt-leb, le-leb, lt-ltb, le-ltb, not-true, not-false}
-use mathlib.Core.Path.{◌≡◌, refl, sym, ap, ◌∙◌}
+use borrow.Author.Tests.{not-true, not-false}
+use mathlib.Core.Path.{refl, sym, ap, ◌∙◌}
 use Rattle.program.proofs.lookup.releases_at.Goals as goal
 
 pub returns-then-not-is_release : goal.returns-then-not-is_release

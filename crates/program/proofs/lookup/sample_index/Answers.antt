@@ -1,8 +1,7 @@
 use lib.ListN.{get_or}
 use Rattle.program.specs.Region.{region_of}
 use Rattle.program.proofs.Words.{first_word, none}
-use mathlib.Core.Path.{◌≡◌, refl, sym, ap, ◌∙◌}
-use borrow.Author.Rules.{rules}
+use mathlib.Core.Path.{ap}
 use Rattle.program.proofs.lookup.sample_index.Goals as goal
 
 pub returns-then-at-words : goal.returns-then-at-words

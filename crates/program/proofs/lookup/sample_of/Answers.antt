@@ -1,7 +1,6 @@
 use Rattle.program.specs.declared.lookup.SampleOf.TheVariants.{Plays}
 use Rattle.program.proofs.Lookups.{reads-silence, reads-outside, reads-sample}
-use mathlib.Core.Path.{◌≡◌, refl, sym, ap, ◌∙◌}
-use borrow.Author.Rules.{rules}
+use mathlib.Core.Path.{ap, ◌∙◌}
 use Rattle.program.proofs.lookup.sample_of.Goals as goal
 
 pub returns-then-s : goal.returns-then-s

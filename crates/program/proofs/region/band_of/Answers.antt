@@ -1,5 +1,4 @@
 use Rattle.program.specs.Region.{band_of}
-use borrow.Author.Rules.{rules}
 use Rattle.program.proofs.region.band_of.Goals as goal
 
 pub returns : goal.returns

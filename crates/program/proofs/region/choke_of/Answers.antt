@@ -1,7 +1,6 @@
 use mir.Facts.{to_z-of_z}
 use mir.Syntax.{w32}
 use Rattle.program.specs.Region.{choke_of}
-use borrow.Author.Rules.{rules}
 use Rattle.program.proofs.region.choke_of.Goals as goal
 
 pub returns : goal.returns

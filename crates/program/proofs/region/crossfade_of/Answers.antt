@@ -1,6 +1,5 @@
 use borrow.Author.Tests.{eq-eqb, ne_eqb}
 use Rattle.program.specs.Region.{crossfade_of}
-use borrow.Author.Rules.{rules}
 use Rattle.program.proofs.region.crossfade_of.Goals as goal
 
 pub returns-then-r-eq0 : goal.returns-then-r-eq0

@@ -3,7 +3,6 @@ use Prim.Native.Nat.{zero-le}
 use Rattle.program.specs.Region.{filter_kinds, filter_kind_of}
 use Rattle.program.proofs.Words.{past}
 use Rattle.program.specs.declared.region.FilterKind.TheVariants.{Lpf1p}
-use native.Mathlib.Omega.{arith}
 use Rattle.program.proofs.region.filter_kind_of.Goals as goal
 
 pub returns-in-0 : goal.returns-in-0

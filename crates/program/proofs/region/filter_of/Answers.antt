@@ -1,5 +1,4 @@
 use Rattle.program.specs.Region.{filter_of}
-use borrow.Author.Rules.{rules}
 use Rattle.program.proofs.region.filter_of.Goals as goal
 
 pub returns : goal.returns

@@ -1,7 +1,6 @@
 use Rattle.program.proofs.Words.{no_nan, a-nan}
 use mathlib.Core.Path.{sym}
 use lib.Ieee.{div, of_bits}
-use borrow.Author.Rules.{rules}
 use Rattle.program.proofs.region.float_of.Goals as goal
 
 pub float_from_bits-result : goal.float_from_bits-result

@@ -1,5 +1,4 @@
 use Rattle.program.specs.Region.{level_of}
-use borrow.Author.Rules.{rules}
 use Rattle.program.proofs.region.level_of.Goals as goal
 
 pub returns : goal.returns

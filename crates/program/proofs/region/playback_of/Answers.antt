@@ -1,5 +1,4 @@
 use Rattle.program.specs.Region.{playback_of}
-use borrow.Author.Rules.{rules}
 use Rattle.program.proofs.region.playback_of.Goals as goal
 
 pub returns : goal.returns

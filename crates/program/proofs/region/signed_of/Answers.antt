@@ -1,11 +1,8 @@
 use Rattle.program.specs.Region.{signed_of}
 use Rattle.program.proofs.Words.{minus_one}
 use Prim.Native.Nat.{◌-◌, ◌<◌}
-use mathlib.Core.Path.{◌≡◌, refl, sym, ap, ◌∙◌}
 use native.Mathlib.Omega.{arith}
-use borrow.Author.Rules.{rules}
 use borrow.Author.Tests.{lt-ltb, le-ltb}
-use mir.Val.{SFits}
 use mir.Syntax.{w32}
 use mir.Facts.{to_z-of_z, to_z_pos}
 use Rattle.program.proofs.region.signed_of.Goals as goal

@@ -1,11 +1,8 @@
 use Rattle.program.proofs.Samples.{infinite, finite, no_more, from_first}
-use Rattle.program.specs.Valid.{all_finite}
-use lib.ListN.{length, take, drop}
-use borrow.Author.Rules.{rules}
 use native.Mathlib.Omega.{arith}
-use Prim.Native.Nat.{ℕ, ◌+◌, ◌-◌, ◌*◌, ◌≤◌, ◌<◌}
-use borrow.Author.Tests.{eq-eqb, ne_eqb, lt-leb, le-leb, lt-ltb, le-ltb, not-true, not-false}
-use mathlib.Core.Path.{◌≡◌, refl, sym, ap, ◌∙◌}
+use Prim.Native.Nat.{◌-◌}
+use borrow.Author.Tests.{not-true, not-false}
+use mathlib.Core.Path.{sym, ◌∙◌}
 use Rattle.program.proofs.sample.frames_finite.Goals as goal
 
 pub loop-k-init : goal.loop-k-init

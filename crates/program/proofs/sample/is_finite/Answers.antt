@@ -1,8 +1,7 @@
 use Rattle.program.proofs.Samples.{nan-not-finite, by_bits, is-number}
-use lib.Ieee.{fits, is_nan, binary32}
 use lib.Dec.{T}
 use mathlib.Core.Path.{subst}
-use mathlib.Core.Path.{◌≡◌, refl, sym, ap, ◌∙◌}
+use mathlib.Core.Path.{sym}
 use Rattle.program.proofs.sample.is_finite.Goals as goal
 
 pub returns-then-x : goal.returns-then-x

@@ -1,8 +1,8 @@
 use mathlib.Core.Bool.{not}
 use Rattle.program.specs.Sample.{rate_tests}
 use Rattle.program.proofs.Checks.{every-no, after, final}
-use borrow.Author.Tests.{eq-eqb, ne_eqb, lt-leb, le-leb, lt-ltb, le-ltb, not-true, not-false}
-use mathlib.Core.Path.{◌≡◌, refl, sym, ap, ◌∙◌}
+use borrow.Author.Tests.{not-true, not-false}
+use mathlib.Core.Path.{refl, sym, ap, ◌∙◌}
 use Rattle.program.proofs.sample.rate_ok.Goals as goal
 
 pub returns-then-not-is_finite : goal.returns-then-not-is_finite

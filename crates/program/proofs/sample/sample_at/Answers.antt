@@ -1,7 +1,5 @@
 use Rattle.program.specs.Sample.{sample_at}
-use borrow.Author.Tests.{eq-eqb, ne_eqb, lt-leb, le-leb, lt-ltb, le-ltb, not-true, not-false}
-use mathlib.Core.Path.{◌≡◌, refl, sym, ap, ◌∙◌}
-use borrow.Author.Rules.{rules}
+use borrow.Author.Tests.{lt-leb, le-leb}
 use Rattle.program.proofs.sample.sample_at.Goals as goal
 
 pub returns-then-at-samples : goal.returns-then-at-samples

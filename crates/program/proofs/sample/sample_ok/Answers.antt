@@ -4,11 +4,9 @@ use Rattle.program.proofs.Binding.{every-at}
 use Rattle.program.proofs.Checks.{every-no, after, final}
 use lib.ListN.{length, take, drop}
 use borrow.Author.Tests.{leb-true}
-use Prim.Native.Nat.{ℕ, ◌+◌, ◌-◌, ◌*◌, ◌≤◌, ◌<◌}
-use native.Mathlib.Omega.{arith}
-use borrow.Author.Tests.{eq-eqb, ne_eqb, lt-leb, le-leb, lt-ltb, le-ltb, not-true, not-false}
-use mathlib.Core.Path.{◌≡◌, refl, sym, ap, ◌∙◌}
-use borrow.Author.Rules.{rules}
+use Prim.Native.Nat.{◌-◌}
+use borrow.Author.Tests.{not-true, not-false}
+use mathlib.Core.Path.{sym, ap, ◌∙◌}
 use Rattle.program.proofs.sample.sample_ok.Goals as goal
 
 pub returns-then-not-shape_ok : goal.returns-then-not-shape_ok

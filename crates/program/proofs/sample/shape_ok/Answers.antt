@@ -4,9 +4,8 @@ use Rattle.program.proofs.Samples.{size-bound}
 use Rattle.program.specs.Sample.{shape_tests}
 use Rattle.program.proofs.Checks.{every-no, after, final, zero-position, some-position}
 use native.Mathlib.Omega.{arith}
-use borrow.Author.Tests.{eq-eqb, ne_eqb, lt-leb, le-leb, lt-ltb, le-ltb, not-true, not-false}
-use mathlib.Core.Path.{◌≡◌, refl, sym, ap, ◌∙◌}
-use borrow.Author.Rules.{rules}
+use borrow.Author.Tests.{lt-leb, le-leb, not-true, not-false}
+use mathlib.Core.Path.{sym, ap, ◌∙◌}
 use Rattle.program.proofs.sample.shape_ok.Goals as goal
 
 pub returns-then-s-eq0 : goal.returns-then-s-eq0

@@ -1,6 +1,5 @@
 use native.Mathlib.Omega.{arith}
 use Rattle.program.proofs.Samples.{size-bound}
-use borrow.Author.Rules.{rules}
 use Rattle.program.proofs.sample.size.Goals as goal
 
 pub overflow_mul-result : goal.overflow_mul-result

@@ -1,5 +1,4 @@
 use Rattle.interp.specs.Span.{span_for}
-use Rattle.std.proofs.Common.{rules}
 use Rattle.interp.proofs.sinc.SincSpan.for_step.Goals as goal
 
 pub returns : goal.returns
