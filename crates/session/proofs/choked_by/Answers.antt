@@ -15,8 +15,8 @@ returns-then-not-r c = simp (c.if-r.false, not-true c.args.r.on_note c.if-not-r.
 
 pub returns-then-not-off_by_is : goal.returns-then-not-off_by_is
 unfolding choked_by
-returns-then-not-off_by_is c = let told = c.struct_told-1 in let a = c.args in simp (c.if-r.false, not-false a.r.on_note c.if-not-r.false, sym (c.off_by_is.ensures ∙ off_by_is-bits {w = w32} a.r.off_by a.st.group (search rules)) ∙ not-true _ c.if-not-off_by_is.true-raw)
+returns-then-not-off_by_is c = let told = c.struct_told-1 in let a = c.args in simp (c.if-r.false, not-false a.r.on_note c.if-not-r.false, sym (c.off_by_is.ensures ∙ off_by_is-bits {w = w32} a.r.off_by a.st.group (search rules)) ∙ c.if-not-off_by_is.true)
 
 pub returns : goal.returns
 unfolding choked_by
-returns c = let told = c.struct_told-1 in let a = c.args in simp (c.if-r.false, not-false a.r.on_note c.if-not-r.false, sym (c.off_by_is.ensures ∙ off_by_is-bits {w = w32} a.r.off_by a.st.group (search rules)) ∙ not-false _ c.if-not-off_by_is.false-raw, c.shares_both.ensures)
+returns c = let told = c.struct_told-1 in let a = c.args in simp (c.if-r.false, not-false a.r.on_note c.if-not-r.false, sym (c.off_by_is.ensures ∙ off_by_is-bits {w = w32} a.r.off_by a.st.group (search rules)) ∙ c.if-not-off_by_is.false, c.shares_both.ensures)

@@ -5,8 +5,8 @@ use Rattle.session.proofs.may_yield.Goals as goal
 
 pub returns-then-not-shares_note : goal.returns-then-not-shares_note
 unfolding may_yield
-returns-then-not-shares_note c = simp (sym c.shares_note.ensures ∙ not-true _ c.if-not-shares_note.true-raw)
+returns-then-not-shares_note c = simp (sym c.shares_note.ensures ∙ c.if-not-shares_note.true)
 
 pub returns : goal.returns
 unfolding may_yield
-returns c = simp (sym c.shares_note.ensures ∙ not-false _ c.if-not-shares_note.false-raw)
+returns c = simp (sym c.shares_note.ensures ∙ c.if-not-shares_note.false)

@@ -2,7 +2,7 @@ use mathlib.Core.Logic.{⊎_elim}
 use mathlib.Core.Path.{◌≡◌, refl, sym, ap, ◌∙◌}
 use mathlib.Core.Bool.{true}
 use lib.ListN.{length}
-use borrow.Author.Tests.{not-true, not-false}
+use borrow.Author.Tests.{not-false}
 use Rattle.block.specs.Inputs.{Lent}
 use Rattle.voice.specs.declared.Called.{Called}
 use Rattle.causes.specs.Tests.{parts_fit, lengths_of, state_fits, in_time}
@@ -25,6 +25,24 @@ Start = lts.Start tie.the-claims reads.Pre reads.Post
 abbrev After_look_k : Type 0
 After_look_k = lts.After-look tie.the-claims reads.Pre reads.Post
 
+abbrev Else_not_parts_fit : Type 0
+Else_not_parts_fit = lts.Else1 tie.the-claims reads.Pre reads.Post
+
+abbrev Else_is_quiet : Type 0
+Else_is_quiet = lts.Else2 tie.the-claims reads.Pre reads.Post
+
+abbrev Then_not_k : Type 0
+Then_not_k = lts.Then3 tie.the-claims reads.Pre reads.Post
+
+abbrev Else_not_state_fits : Type 0
+Else_not_state_fits = lts.Else4 tie.the-claims reads.Pre reads.Post
+
+abbrev Joined_not_k : Type 0
+Joined_not_k = lts.Joined3 tie.the-claims reads.Pre reads.Post
+
+abbrev Then_is_calm : Type 0
+Then_is_calm = lts.Then6 tie.the-claims reads.Pre reads.Post
+
 -- what the call was lent, as its promise has it
 abbrev lent : Start → Lent
 lent e = record {
@@ -46,34 +64,34 @@ lent e = record {
 }
 
 -- the function's entry, from the first test
-abbrev entry : goal.Else-not-parts_fit → Start
+abbrev entry : Else_not_parts_fit → Start
 entry c = c.before.before.before.before.before.before.before.before.before.before.before.before.before.before.before.before
 
-passed-7 : (c : goal.Else-not-parts_fit) → parts_fit (entry c).args.t.frames (entry c).args.c (lengths_of (lent (entry c))) ≡ true
-passed-7 c = sym (c.parts_fit.ensures ∙ ap (parts_fit (entry c).args.t.frames (entry c).args.c) c.lengths_of-lengths.ensures) ∙ not-false _ c.if-not-parts_fit.false-raw
+passed-7 : (c : Else_not_parts_fit) → parts_fit (entry c).args.t.frames (entry c).args.c (lengths_of (lent (entry c))) ≡ true
+passed-7 c = sym (c.parts_fit.ensures ∙ ap (parts_fit (entry c).args.t.frames (entry c).args.c) c.lengths_of-lengths.ensures) ∙ c.if-not-parts_fit.false
 
 -- past the quiet block, where the look was taken
-abbrev still : goal.Else-is_quiet → goal.Else-not-parts_fit
+abbrev still : Else_is_quiet → Else_not_parts_fit
 still c = c.before.before
 
-abbrev looked : After_look_k → goal.Else-not-parts_fit
+abbrev looked : After_look_k → Else_not_parts_fit
 looked c = still c.before
 
 -- where it does not fit
-abbrev amiss : goal.Then-not-k → After_look_k
+abbrev amiss : Then_not_k → After_look_k
 amiss c = c.before.before
 
-abbrev first : goal.Else-not-state_fits → After_look_k
+abbrev first : Else_not_state_fits → After_look_k
 first c = amiss c.before.before
 
-passed-8 : (c : goal.Else-not-state_fits) → let e = (entry (looked (first c))).args in state_fits e.s e.v e.words.now e.samples.now (length e.pcm.now) (length e.table.now) ≡ true
-passed-8 c = sym c.state_fits.ensures ∙ not-false _ c.if-not-state_fits.false-raw
+passed-8 : (c : Else_not_state_fits) → let e = (entry (looked (first c))).args in state_fits e.s e.v e.words.now e.samples.now (length e.pcm.now) (length e.table.now) ≡ true
+passed-8 c = sym c.state_fits.ensures ∙ c.if-not-state_fits.false
 
 -- past 8 and 9, as the look or the plain tests tell it
-abbrev past : goal.Joined-not-k → After_look_k
+abbrev past : Joined_not_k → After_look_k
 past c = c.before.before
 
-passed : (c : goal.Joined-not-k) → let e = (entry (looked (past c))).args in
+passed : (c : Joined_not_k) → let e = (entry (looked (past c))).args in
     (state_fits e.s e.v e.words.now e.samples.now (length e.pcm.now) (length e.table.now) ≡ true) × (in_time e.t.offset e.s.event_serial ≡ true)
 passed c =
     let e = entry (looked (past c)) in
@@ -81,11 +99,11 @@ passed c =
     (λ w. let f = sym (past c).look.ensures.0 ∙ not-false _ w.left in (look-state (lent e) e.args.s e.args.v f, look-time (lent e) e.args.s e.args.v f)) c.if-not-k.branch
 
 -- a block without events
-calm : (c : goal.Then-is_calm) → let e = entry (looked (past c.before.before)) in Calm (lent e) e.args.s e.args.v
+calm : (c : Then_is_calm) → let e = entry (looked (past c.before.before)) in Calm (lent e) e.args.s e.args.v
 calm c = let e = entry (looked (past c.before.before)) in calm-told (lent e) e.args.s e.args.v _ (past c.before.before).look.ensures _ c.is_calm.ensures c.if-is_calm.true
 
 pub returns-then-not-parts_fit : goal.returns-then-not-parts_fit
-returns-then-not-parts_fit c = block-promise (lent c.before.before.before.before.before.before.before.before.before.before.before.before.before.before.before.before.before) c.args.s c.args.v (block-7 (lent c.before.before.before.before.before.before.before.before.before.before.before.before.before.before.before.before.before) c.args.s c.args.v _ c.refused.ensures (sym (c.parts_fit.ensures ∙ ap (parts_fit c.args.t.frames c.args.c) c.lengths_of-lengths.ensures) ∙ not-true _ c.if-not-parts_fit.true-raw))
+returns-then-not-parts_fit c = block-promise (lent c.before.before.before.before.before.before.before.before.before.before.before.before.before.before.before.before.before) c.args.s c.args.v (block-7 (lent c.before.before.before.before.before.before.before.before.before.before.before.before.before.before.before.before.before) c.args.s c.args.v _ c.refused.ensures (sym (c.parts_fit.ensures ∙ ap (parts_fit c.args.t.frames c.args.c) c.lengths_of-lengths.ensures) ∙ c.if-not-parts_fit.true))
 
 pub is_quiet-requires : goal.is_quiet-requires
 is_quiet-requires c = gate-covers (lent (entry c)) (passed-7 c)
@@ -100,13 +118,13 @@ pub quiet_outputs-requires : goal.quiet_outputs-requires
 quiet_outputs-requires c = let e = entry c.before.before.before.before in let l = lent e in let n = e.args.t.frames in (covers-as e.args.c.amp e.args.amp.now _ n (part_length n l.left (in_left l e.args.s e.args.v (passed-7 c.before.before.before.before))) (amp-covers l (passed-7 c.before.before.before.before)), covers-as e.args.c.amp e.args.amp.now _ n (part_length n l.right (in_right l e.args.s e.args.v (passed-7 c.before.before.before.before))) (amp-covers l (passed-7 c.before.before.before.before)))
 
 pub returns-then-is_quiet : goal.returns-then-is_quiet
-returns-then-is_quiet c = let e = entry c.before.before.before.before.before.before.before.before.before.before in block-promise (lent e) e.args.s e.args.v (quiet-out (lent e) e.args.s e.args.v (sym c.is_quiet.ensures ∙ c.if-is_quiet.true) e.well_formed.0.1.1.0.1.0.1 (passed-7 c.before.before.before.before.before.before.before.before.before.before) _ c.refused-then-is_quiet.ensures _ _ c.quiet_outputs.ensures.0 c.quiet_outputs.ensures.1 (same_length c) (same-length-2 c))
+returns-then-is_quiet c = let e = entry c.before.before.before.before.before.before.before.before.before.before in block-promise (lent e) e.args.s e.args.v (quiet-out (lent e) e.args.s e.args.v (sym c.is_quiet.ensures ∙ c.if-is_quiet.true) e.well_formed.0.1.1.0.1.0.1 (passed-7 c.before.before.before.before.before.before.before.before.before.before) _ c.refused-then-is_quiet.ensures _ _ c.quiet_outputs.ensures.0 c.quiet_outputs.ensures.1 (search rules) (search rules))
 
 pub returns-then-not-state_fits : goal.returns-then-not-state_fits
-returns-then-not-state_fits c = let d = looked c.before.before.before.before.before in let e = entry d in block-promise (lent e) e.args.s e.args.v (block-8 (lent e) e.args.s e.args.v (passed-7 d) _ c.refused-then-not-state_fits.ensures (sym c.state_fits.ensures ∙ not-true _ c.if-not-state_fits.true-raw))
+returns-then-not-state_fits c = let d = looked c.before.before.before.before.before in let e = entry d in block-promise (lent e) e.args.s e.args.v (block-8 (lent e) e.args.s e.args.v (passed-7 d) _ c.refused-then-not-state_fits.ensures (sym c.state_fits.ensures ∙ c.if-not-state_fits.true))
 
 pub returns-then-not-in_time : goal.returns-then-not-in_time
-returns-then-not-in_time c = let d = looked c.before.before.before.before.before.before.before in let e = entry d in block-promise (lent e) e.args.s e.args.v (block-9 (lent e) e.args.s e.args.v (passed-7 d) (passed-8 c.before.before.before) _ c.refused-then-not-in_time.ensures (sym c.in_time.ensures ∙ not-true _ c.if-not-in_time.true-raw))
+returns-then-not-in_time c = let d = looked c.before.before.before.before.before.before.before in let e = entry d in block-promise (lent e) e.args.s e.args.v (block-9 (lent e) e.args.s e.args.v (passed-7 d) (passed-8 c.before.before.before) _ c.refused-then-not-in_time.ensures (sym c.in_time.ensures ∙ c.if-not-in_time.true))
 
 pub is_calm-requires : goal.is_calm-requires
 is_calm-requires c = let d = looked c.before.before in let e = entry d in gate-covers (lent e) (passed-7 d)
@@ -131,7 +149,7 @@ returns-then-not-m c = let d = looked c.before.before.before.before.before.befor
     (calm-out (lent e) e.args.s e.args.v (calm c.before.before.before.before.before.before.before.before.before.before.before.before.before.before.before) e.well_formed.0.1.1.0.1.0.1 e.well_formed.1.0.1.1.1.1.1.1.1.1.1.0.1.1.0.1.0.1 (passed-7 d) _ (ap (λ (z : Called). z.answer) c.refused-then-not-m.ensures) _ _
     (left_by _ _ _ _ _ e.args.s e.args.v _ c.tune_of-x.ensures _ m.ensures.0 _
     (ap (λ (z : Called). record { session = z.session; voice = z.voice }) c.refused-then-not-m.ensures ∙ stays-as _ e.args.s e.args.v _ m.ensures.2 c.if-m-eq0.true _ m.ensures.1 c.if-not-m.true))
-    (same-length-3 c) (same-length-4 c))
+    (search rules) (search rules))
 
 pub returns-then-is_calm : goal.returns-then-is_calm
 returns-then-is_calm c = let d = looked c.before.before.before.before.before.before.before.before.before.before.before.before.before.before.before.before.before.before.before.before in
@@ -140,7 +158,7 @@ returns-then-is_calm c = let d = looked c.before.before.before.before.before.bef
     block-promise (lent e) e.args.s e.args.v
     (calm-out (lent e) e.args.s e.args.v (calm c.before.before.before.before.before.before.before.before.before.before.before.before.before.before.before.before) e.well_formed.0.1.1.0.1.0.1 e.well_formed.1.0.1.1.1.1.1.1.1.1.1.0.1.1.0.1.0.1 (passed-7 d) _ refl _ _
     (left_by _ _ _ _ _ e.args.s e.args.v _ c.tune_of-x.ensures _ m.ensures.0 _ c.settle-b.ensures.0)
-    (same-length-5 c) (same-length-6 c))
+    (search rules) (search rules))
 
 pub slice_bounds-play_block-end : goal.slice_bounds-play_block-end
 slice_bounds-play_block-end c = let d = looked c.before.before.before.before in let e = entry d in in_left (lent e) e.args.s e.args.v (passed-7 d)
@@ -152,4 +170,4 @@ pub play_block-b-requires : goal.play_block-b-requires
 play_block-b-requires c = let d = looked c.before.before.before.before.before.before in let e = entry d in let p = passed c.before.before.before.before in ready (lent e) e.args.s e.args.v e.well_formed.1.0.1.1.1.1.1.1.1.1.1.0.1.1.0.1.0.1 (passed-7 d) p.0 p.1
 
 pub returns : goal.returns
-returns c = let d = looked c.before.before.before.before.before.before.before.before.before.before.before.before.before in let e = entry d in let p = passed c.before.before.before.before.before.before.before.before.before.before.before in block-promise (lent e) e.args.s e.args.v (block_out (lent e) e.args.s e.args.v (passed-7 d) p.0 p.1 _ _ _ c.play_block-b.ensures.0 (same-length-7 c) (same-length-8 c))
+returns c = let d = looked c.before.before.before.before.before.before.before.before.before.before.before.before.before in let e = entry d in let p = passed c.before.before.before.before.before.before.before.before.before.before.before in block-promise (lent e) e.args.s e.args.v (block_out (lent e) e.args.s e.args.v (passed-7 d) p.0 p.1 _ _ _ c.play_block-b.ensures.0 (search rules) (search rules))

@@ -1,5 +1,4 @@
 use mathlib.Core.Path.{sym, ◌∙◌}
-use borrow.Author.Tests.{not-true, not-false}
 use Rattle.program.proofs.Checks.{every-no, after, final}
 use mathlib.Core.List.{[], ◌∷◌}
 use Rattle.program.specs.Bind.{program_ok}
@@ -9,8 +8,8 @@ use Rattle.causes.proofs.check.program_fits.Goals as goal
 
 pub returns-then-not-program_ok : goal.returns-then-not-program_ok
 unfolding program_fits
-returns-then-not-program_ok c = let a = c.args in every-no (program_ok a.v.program a.words.now a.samples.now a.frames a.table ∷ samples_fit a.samples.now a.v.players ∷ []) 0 (sym c.program_ok.ensures ∙ not-true _ c.if-not-program_ok.true-raw)
+returns-then-not-program_ok c = let a = c.args in every-no (program_ok a.v.program a.words.now a.samples.now a.frames a.table ∷ samples_fit a.samples.now a.v.players ∷ []) 0 (sym c.program_ok.ensures ∙ c.if-not-program_ok.true)
 
 pub returns : goal.returns
 unfolding program_fits
-returns c = after (sym c.program_ok.ensures ∙ not-false _ c.if-not-program_ok.false-raw) (final c.samples_fit.ensures)
+returns c = after (sym c.program_ok.ensures ∙ c.if-not-program_ok.false) (final c.samples_fit.ensures)

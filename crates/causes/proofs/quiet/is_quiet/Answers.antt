@@ -3,7 +3,7 @@ use mathlib.Core.Bool.{Bool}
 use mathlib.Core.List.{List}
 use native.Mathlib.Omega.{arith}
 use lib.Dec.{eqb}
-use borrow.Author.Tests.{not-true, not-false, eq-eqb, ne_eqb}
+use borrow.Author.Tests.{eq-eqb, ne_eqb}
 use Rattle.program.proofs.Checks.{every-no, after, final}
 use Rattle.causes.specs.Quiet.{quiet_tests, is_quiet}
 use Rattle.causes.proofs.quiet.is_quiet.Goals as goal
@@ -20,27 +20,27 @@ asked e = quiet_tests e.args.t e.args.c e.args.gate.now e.args.words.now e.args.
 
 pub returns-then-v-ne0 : goal.returns-then-v-ne0
 unfolding is_quiet
-returns-then-v-ne0 c = every-no (asked c.before.before.before.before.before) 0 (ne_eqb _ _ c.if-v-ne0.true)
+returns-then-v-ne0 c = every-no (asked c.before.before.before.before.before.before) 0 (ne_eqb _ _ c.if-v-ne0.true)
 
 pub returns-then-not-rest_fits : goal.returns-then-not-rest_fits
 unfolding is_quiet
-returns-then-not-rest_fits c = every-no (asked c.before.before.before.before.before.before.before) 1 (sym c.rest_fits.ensures ∙ not-true _ c.if-not-rest_fits.true-raw)
+returns-then-not-rest_fits c = every-no (asked c.before.before.before.before.before.before.before.before) 1 (sym c.rest_fits.ensures ∙ c.if-not-rest_fits.true)
 
 pub returns-then-not-others_fit : goal.returns-then-not-others_fit
 unfolding is_quiet
-returns-then-not-others_fit c = every-no (asked c.before.before.before.before.before.before.before.before.before.before) 2 (sym c.others_fit.ensures ∙ not-true _ c.if-not-others_fit.true-raw)
+returns-then-not-others_fit c = every-no (asked c.before.before.before.before.before.before.before.before.before.before.before) 2 (sym c.others_fit.ensures ∙ c.if-not-others_fit.true)
 
 pub returns-then-not-program_ok : goal.returns-then-not-program_ok
 unfolding is_quiet
-returns-then-not-program_ok c = every-no (asked c.before.before.before.before.before.before.before.before.before.before.before.before) 3 (sym c.program_ok.ensures ∙ not-true _ c.if-not-program_ok.true-raw)
+returns-then-not-program_ok c = every-no (asked c.before.before.before.before.before.before.before.before.before.before.before.before.before) 3 (sym c.program_ok.ensures ∙ c.if-not-program_ok.true)
 
 pub returns-then-not-in_time : goal.returns-then-not-in_time
 unfolding is_quiet
-returns-then-not-in_time c = every-no (asked c.before.before.before.before.before.before.before.before.before.before.before.before.before.before) 4 (sym c.in_time.ensures ∙ not-true _ c.if-not-in_time.true-raw)
+returns-then-not-in_time c = every-no (asked c.before.before.before.before.before.before.before.before.before.before.before.before.before.before.before) 4 (sym c.in_time.ensures ∙ c.if-not-in_time.true)
 
 pub next_gate-requires : goal.next_gate-requires
 next_gate-requires c = (c.requires, omega arith)
 
 pub returns : goal.returns
 unfolding is_quiet
-returns c = after (eq-eqb _ _ c.if-v-ne0.false) (after (sym c.rest_fits.ensures ∙ not-false _ c.if-not-rest_fits.false-raw) (after (sym c.others_fit.ensures ∙ not-false _ c.if-not-others_fit.false-raw) (after (sym c.program_ok.ensures ∙ not-false _ c.if-not-program_ok.false-raw) (after (sym c.in_time.ensures ∙ not-false _ c.if-not-in_time.false-raw) (final (ap (λ k. eqb k c.args.t.frames) c.next_gate.ensures))))))
+returns c = after (eq-eqb _ _ c.if-v-ne0.false) (after (sym c.rest_fits.ensures ∙ c.if-not-rest_fits.false) (after (sym c.others_fit.ensures ∙ c.if-not-others_fit.false) (after (sym c.program_ok.ensures ∙ c.if-not-program_ok.false) (after (sym c.in_time.ensures ∙ c.if-not-in_time.false) (final (ap (λ k. eqb k c.args.t.frames) c.next_gate.ensures))))))

@@ -9,8 +9,8 @@ use Rattle.lines.proofs.block.sample_fits.Goals as goal
 
 pub returns-then-not-line_fits : goal.returns-then-not-line_fits
 unfolding sample_test rows
-returns-then-not-line_fits c = and_no _ (sym c.line_fits.ensures ∙ not-true _ c.if-not-line_fits.true-raw)
+returns-then-not-line_fits c = and_no _ (sym c.line_fits.ensures ∙ c.if-not-line_fits.true)
 
 pub returns : goal.returns
 unfolding sample_test rows
-returns c = after (sym c.line_fits.ensures ∙ not-false _ c.if-not-line_fits.false-raw) (ap (ltb 0) c.word.ensures)
+returns c = after (sym c.line_fits.ensures ∙ c.if-not-line_fits.false) (ap (ltb 0) c.word.ensures)

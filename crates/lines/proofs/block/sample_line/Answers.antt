@@ -6,8 +6,8 @@ use Rattle.lines.proofs.block.sample_line.Goals as goal
 
 pub returns-then-not-sample_fits : goal.returns-then-not-sample_fits
 unfolding sample_line
-returns-then-not-sample_fits c = pick_no _ (sym c.sample_fits.ensures ∙ not-true _ c.if-not-sample_fits.true-raw) refl
+returns-then-not-sample_fits c = pick_no _ (sym c.sample_fits.ensures ∙ c.if-not-sample_fits.true) refl
 
 pub returns : goal.returns
 unfolding sample_line
-returns c = pick_yes _ (sym c.sample_fits.ensures ∙ not-false _ c.if-not-sample_fits.false-raw) (cc)
+returns c = pick_yes _ (sym c.sample_fits.ensures ∙ c.if-not-sample_fits.false) (cc)

@@ -7,8 +7,8 @@ use Rattle.lines.proofs.block.voice_line.Goals as goal
 
 pub returns-then-not-line_fits : goal.returns-then-not-line_fits
 unfolding voice_line rows
-returns-then-not-line_fits c = pick_no _ (sym c.line_fits.ensures ∙ not-true _ c.if-not-line_fits.true-raw) refl
+returns-then-not-line_fits c = pick_no _ (sym c.line_fits.ensures ∙ c.if-not-line_fits.true) refl
 
 pub returns : goal.returns
 unfolding voice_line rows
-returns c = pick_yes _ (sym c.line_fits.ensures ∙ not-false _ c.if-not-line_fits.false-raw) (cc)
+returns c = pick_yes _ (sym c.line_fits.ensures ∙ c.if-not-line_fits.false) (cc)

@@ -6,8 +6,8 @@ use Rattle.lines.proofs.desk.block_line.Goals as goal
 
 pub returns-then-not-block_ok : goal.returns-then-not-block_ok
 unfolding block_line
-returns-then-not-block_ok c = pick_no _ (sym c.block_ok.ensures ∙ not-true _ c.if-not-block_ok.true-raw) refl
+returns-then-not-block_ok c = pick_no _ (sym c.block_ok.ensures ∙ c.if-not-block_ok.true) refl
 
 pub returns : goal.returns
 unfolding block_line
-returns c = pick_yes _ (sym c.block_ok.ensures ∙ not-false _ c.if-not-block_ok.false-raw) (cc)
+returns c = pick_yes _ (sym c.block_ok.ensures ∙ c.if-not-block_ok.false) (cc)

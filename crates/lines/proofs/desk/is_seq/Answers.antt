@@ -13,8 +13,8 @@ returns-then-is_none c = pick_yes _ (sym c.is_none.ensures ∙ c.if-is_none.true
 
 pub returns-then-not-is_number : goal.returns-then-not-is_number
 unfolding is_seq
-returns-then-not-is_number c = pick_no _ (sym c.is_none.ensures ∙ c.if-is_none.false) (every-no (is_number 0xffff_ffff (field_at c.args.line.now c.args.j) ∷ is_number 0xffff_ffff (field_at c.args.line.now c.args.k) ∷ []) 0 (sym c.is_number.ensures ∙ not-true _ c.if-not-is_number.true-raw))
+returns-then-not-is_number c = pick_no _ (sym c.is_none.ensures ∙ c.if-is_none.false) (every-no (is_number 0xffff_ffff (field_at c.args.line.now c.args.j) ∷ is_number 0xffff_ffff (field_at c.args.line.now c.args.k) ∷ []) 0 (sym c.is_number.ensures ∙ c.if-not-is_number.true))
 
 pub returns : goal.returns
 unfolding is_seq
-returns c = pick_no _ (sym c.is_none.ensures ∙ c.if-is_none.false) (after (sym c.is_number.ensures ∙ not-false _ c.if-not-is_number.false-raw) (final c.is_number-2.ensures))
+returns c = pick_no _ (sym c.is_none.ensures ∙ c.if-is_none.false) (after (sym c.is_number.ensures ∙ c.if-not-is_number.false) (final c.is_number-2.ensures))

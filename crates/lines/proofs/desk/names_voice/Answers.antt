@@ -8,8 +8,8 @@ use Rattle.lines.proofs.desk.names_voice.Goals as goal
 
 pub returns-then-not-has_fields : goal.returns-then-not-has_fields
 unfolding names_voice
-returns-then-not-has_fields c = every-no (has_fields 2 c.args.line.now ∷ is_number 0xffff_ffff_ffff_ffff (field_at c.args.line.now 1) ∷ []) 0 (sym c.has_fields.ensures ∙ not-true _ c.if-not-has_fields.true-raw)
+returns-then-not-has_fields c = every-no (has_fields 2 c.args.line.now ∷ is_number 0xffff_ffff_ffff_ffff (field_at c.args.line.now 1) ∷ []) 0 (sym c.has_fields.ensures ∙ c.if-not-has_fields.true)
 
 pub returns : goal.returns
 unfolding names_voice
-returns c = after (sym c.has_fields.ensures ∙ not-false _ c.if-not-has_fields.false-raw) (final c.is_number.ensures)
+returns c = after (sym c.has_fields.ensures ∙ c.if-not-has_fields.false) (final c.is_number.ensures)

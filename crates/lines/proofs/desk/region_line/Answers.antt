@@ -6,8 +6,8 @@ use Rattle.lines.proofs.desk.region_line.Goals as goal
 
 pub returns-then-not-region_ok : goal.returns-then-not-region_ok
 unfolding region_line
-returns-then-not-region_ok c = pick_no _ (sym c.region_ok.ensures ∙ not-true _ c.if-not-region_ok.true-raw) refl
+returns-then-not-region_ok c = pick_no _ (sym c.region_ok.ensures ∙ c.if-not-region_ok.true) refl
 
 pub returns : goal.returns
 unfolding region_line
-returns c = pick_yes _ (sym c.region_ok.ensures ∙ not-false _ c.if-not-region_ok.false-raw) (cc)
+returns c = pick_yes _ (sym c.region_ok.ensures ∙ c.if-not-region_ok.false) (cc)

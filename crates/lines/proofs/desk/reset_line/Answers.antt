@@ -6,8 +6,8 @@ use Rattle.lines.proofs.desk.reset_line.Goals as goal
 
 pub returns-then-not-names_voice : goal.returns-then-not-names_voice
 unfolding reset_line
-returns-then-not-names_voice c = pick_no _ (sym c.names_voice.ensures ∙ not-true _ c.if-not-names_voice.true-raw) refl
+returns-then-not-names_voice c = pick_no _ (sym c.names_voice.ensures ∙ c.if-not-names_voice.true) refl
 
 pub returns : goal.returns
 unfolding reset_line
-returns c = pick_yes _ (sym c.names_voice.ensures ∙ not-false _ c.if-not-names_voice.false-raw) (cc)
+returns c = pick_yes _ (sym c.names_voice.ensures ∙ c.if-not-names_voice.false) (cc)

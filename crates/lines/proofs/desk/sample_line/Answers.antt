@@ -6,8 +6,8 @@ use Rattle.lines.proofs.desk.sample_line.Goals as goal
 
 pub returns-then-not-sample_ok : goal.returns-then-not-sample_ok
 unfolding sample_line
-returns-then-not-sample_ok c = pick_no _ (sym c.sample_ok.ensures ∙ not-true _ c.if-not-sample_ok.true-raw) refl
+returns-then-not-sample_ok c = pick_no _ (sym c.sample_ok.ensures ∙ c.if-not-sample_ok.true) refl
 
 pub returns : goal.returns
 unfolding sample_line
-returns c = pick_yes _ (sym c.sample_ok.ensures ∙ not-false _ c.if-not-sample_ok.false-raw) (cc)
+returns c = pick_yes _ (sym c.sample_ok.ensures ∙ c.if-not-sample_ok.false) (cc)

@@ -7,8 +7,8 @@ use Rattle.lines.proofs.rows.line_fits.Goals as goal
 
 pub returns-then-not-has_fields : goal.returns-then-not-has_fields
 unfolding line_fits
-returns-then-not-has_fields c = and_no _ (sym c.has_fields.ensures ∙ not-true _ c.if-not-has_fields.true-raw)
+returns-then-not-has_fields c = and_no _ (sym c.has_fields.ensures ∙ c.if-not-has_fields.true)
 
 pub returns : goal.returns
 unfolding line_fits
-returns c = after (sym c.has_fields.ensures ∙ not-false _ c.if-not-has_fields.false-raw) c.fields_fit.ensures
+returns c = after (sym c.has_fields.ensures ∙ c.if-not-has_fields.false) c.fields_fit.ensures

@@ -8,12 +8,12 @@ use Rattle.note.proofs.choice.may_start.Goals as goal
 
 pub returns-then-not-on : goal.returns-then-not-on
 unfolding may_start
-returns-then-not-on c = no-and {a = c.args.on} _ (not-true _ c.if-not-on.true-raw)
+returns-then-not-on c = no-and {a = c.args.on} _ c.if-not-on.true
 
 pub returns-then-not-hears_velocity : goal.returns-then-not-hears_velocity
 unfolding may_start
-returns-then-not-hears_velocity c = after {a = c.args.on} (not-false _ c.if-not-on.false-raw) (no-and _ (sym c.hears_velocity.ensures ∙ not-true _ c.if-not-hears_velocity.true-raw))
+returns-then-not-hears_velocity c = after {a = c.args.on} c.if-not-on.false (no-and _ (sym c.hears_velocity.ensures ∙ c.if-not-hears_velocity.true))
 
 pub returns : goal.returns
 unfolding may_start
-returns c = after {a = c.args.on} (not-false _ c.if-not-on.false-raw) (after (sym c.hears_velocity.ensures ∙ not-false _ c.if-not-hears_velocity.false-raw) (c.draw_in.ensures ∙ ap (λ (x : Choice). draw_in x.rand c.args.draw) c.choice_at-x.ensures))
+returns c = after {a = c.args.on} c.if-not-on.false (after (sym c.hears_velocity.ensures ∙ c.if-not-hears_velocity.false) (c.draw_in.ensures ∙ ap (λ (x : Choice). draw_in x.rand c.args.draw) c.choice_at-x.ensures))

@@ -22,7 +22,7 @@ bounds-ps-k c = omega (arith, c.loop-k.invariant.1, c.loop-k.invariant.2)
 
 pub returns-then-not-player_fits : goal.returns-then-not-player_fits
 unfolding players_fit
-returns-then-not-player_fits c = let s = c.args.ps.players in let h : c.in_use-n.result ≤ length s = omega (arith, c.loop-k.invariant.1, c.loop-k.invariant.2) in sym (ap (λ m. every (map (player_fits c.args.b) (take m s))) (sym c.in_use-n.ensures) ∙ c.loop-k.invariant.3 ∙ fails (player_fits c.args.b) s c.in_use-n.result c.loop-k.k _ h c.loop-k-test.true (sym c.player_fits.ensures ∙ not-true _ c.if-not-player_fits.true-raw))
+returns-then-not-player_fits c = let s = c.args.ps.players in let h : c.in_use-n.result ≤ length s = omega (arith, c.loop-k.invariant.1, c.loop-k.invariant.2) in sym (ap (λ m. every (map (player_fits c.args.b) (take m s))) (sym c.in_use-n.ensures) ∙ c.loop-k.invariant.3 ∙ fails (player_fits c.args.b) s c.in_use-n.result c.loop-k.k _ h c.loop-k-test.true (sym c.player_fits.ensures ∙ c.if-not-player_fits.true))
 
 pub overflow_add-k : goal.overflow_add-k
 overflow_add-k c = record { fits = omega (arith, c.loop-k.invariant.1, c.loop-k-test.true) }
@@ -31,7 +31,7 @@ pub loop-k-smaller : goal.loop-k-smaller
 loop-k-smaller c = omega (arith, c.loop-k-test.true)
 
 pub loop-k-preserved : goal.loop-k-preserved
-loop-k-preserved c = let s = c.args.ps.players in let h : c.in_use-n.result ≤ length s = omega (arith, c.loop-k.invariant.1, c.loop-k.invariant.2) in (omega (arith, c.loop-k-test.true), c.loop-k.invariant.1, c.loop-k.invariant.2, c.loop-k.invariant.3 ∙ passes (player_fits c.args.b) s c.in_use-n.result c.loop-k.k _ h c.loop-k-test.true (sym c.player_fits.ensures ∙ not-false _ c.if-not-player_fits.false-raw))
+loop-k-preserved c = let s = c.args.ps.players in let h : c.in_use-n.result ≤ length s = omega (arith, c.loop-k.invariant.1, c.loop-k.invariant.2) in (omega (arith, c.loop-k-test.true), c.loop-k.invariant.1, c.loop-k.invariant.2, c.loop-k.invariant.3 ∙ passes (player_fits c.args.b) s c.in_use-n.result c.loop-k.k _ h c.loop-k-test.true (sym c.player_fits.ensures ∙ c.if-not-player_fits.false))
 
 pub returns : goal.returns
 unfolding players_fit

@@ -20,11 +20,11 @@ bounds-ps-k c = omega (arith, c.loop-k.invariant.1, c.loop-k.invariant.2)
 
 pub returns-then-not-player_fits : goal.returns-then-not-player_fits
 returns-then-not-player_fits c = let g = c.loop-k.invariant in
-    (looking-out _ _ _ _ _ _ _ g.3 (omega (arith, g.1, g.2)) c.loop-k-test.true c.in_use-n.ensures (sym c.player_fits.ensures ∙ not-true _ c.if-not-player_fits.true-raw), λ e. absurd (true≢false (sym e)))
+    (looking-out _ _ _ _ _ _ _ g.3 (omega (arith, g.1, g.2)) c.loop-k-test.true c.in_use-n.ensures (sym c.player_fits.ensures ∙ c.if-not-player_fits.true), λ e. absurd (true≢false (sym e)))
 
 pub returns-then-not-sample_fits : goal.returns-then-not-sample_fits
 returns-then-not-sample_fits c = let g = c.loop-k.invariant in
-    (looking-past _ _ _ _ _ _ _ g.3 (omega (arith, g.1, g.2)) c.loop-k-test.true c.in_use-n.ensures (sym c.sample_fits.ensures ∙ not-true _ c.if-not-sample_fits.true-raw), λ e. absurd (true≢false (sym e)))
+    (looking-past _ _ _ _ _ _ _ g.3 (omega (arith, g.1, g.2)) c.loop-k-test.true c.in_use-n.ensures (sym c.sample_fits.ensures ∙ c.if-not-sample_fits.true), λ e. absurd (true≢false (sym e)))
 
 pub offset_bounds-slots-k : goal.offset_bounds-slots-k
 offset_bounds-slots-k c = record { fits = omega (arith, c.loop-k.invariant.1, c.loop-k-test.true) }
@@ -44,7 +44,7 @@ loop-k-preserved c = let g = c.loop-k.invariant in
       omega (arith, inside),
       g.1,
       g.2,
-      looking-on _ _ _ _ _ _ _ g.3 (omega (arith, g.1, g.2)) inside g.1 (sym c.player_fits.ensures ∙ not-false _ c.if-not-player_fits.false-raw) (sym c.sample_fits.ensures ∙ not-false _ c.if-not-sample_fits.false-raw),
+      looking-on _ _ _ _ _ _ _ g.3 (omega (arith, g.1, g.2)) inside g.1 (sym c.player_fits.ensures ∙ c.if-not-player_fits.false) (sym c.sample_fits.ensures ∙ c.if-not-sample_fits.false),
     )
 
 pub returns : goal.returns

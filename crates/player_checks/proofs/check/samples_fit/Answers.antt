@@ -22,7 +22,7 @@ bounds-ps-k c = omega (arith, c.loop-k.invariant.1, c.loop-k.invariant.2)
 
 pub returns-then-not-sample_fits : goal.returns-then-not-sample_fits
 unfolding samples_fit
-returns-then-not-sample_fits c = let s = c.args.ps.players in let h : c.in_use-n.result ≤ length s = omega (arith, c.loop-k.invariant.1, c.loop-k.invariant.2) in sym (ap (λ m. every (map (sample_fits c.args.samples.now) (take m s))) (sym c.in_use-n.ensures) ∙ c.loop-k.invariant.3 ∙ fails (sample_fits c.args.samples.now) s c.in_use-n.result c.loop-k.k _ h c.loop-k-test.true (sym c.sample_fits.ensures ∙ not-true _ c.if-not-sample_fits.true-raw))
+returns-then-not-sample_fits c = let s = c.args.ps.players in let h : c.in_use-n.result ≤ length s = omega (arith, c.loop-k.invariant.1, c.loop-k.invariant.2) in sym (ap (λ m. every (map (sample_fits c.args.samples.now) (take m s))) (sym c.in_use-n.ensures) ∙ c.loop-k.invariant.3 ∙ fails (sample_fits c.args.samples.now) s c.in_use-n.result c.loop-k.k _ h c.loop-k-test.true (sym c.sample_fits.ensures ∙ c.if-not-sample_fits.true))
 
 pub overflow_add-k : goal.overflow_add-k
 overflow_add-k c = record { fits = omega (arith, c.loop-k.invariant.1, c.loop-k-test.true) }
@@ -31,7 +31,7 @@ pub loop-k-smaller : goal.loop-k-smaller
 loop-k-smaller c = omega (arith, c.loop-k-test.true)
 
 pub loop-k-preserved : goal.loop-k-preserved
-loop-k-preserved c = let s = c.args.ps.players in let h : c.in_use-n.result ≤ length s = omega (arith, c.loop-k.invariant.1, c.loop-k.invariant.2) in (omega (arith, c.loop-k-test.true), c.loop-k.invariant.1, c.loop-k.invariant.2, c.loop-k.invariant.3 ∙ passes (sample_fits c.args.samples.now) s c.in_use-n.result c.loop-k.k _ h c.loop-k-test.true (sym c.sample_fits.ensures ∙ not-false _ c.if-not-sample_fits.false-raw))
+loop-k-preserved c = let s = c.args.ps.players in let h : c.in_use-n.result ≤ length s = omega (arith, c.loop-k.invariant.1, c.loop-k.invariant.2) in (omega (arith, c.loop-k-test.true), c.loop-k.invariant.1, c.loop-k.invariant.2, c.loop-k.invariant.3 ∙ passes (sample_fits c.args.samples.now) s c.in_use-n.result c.loop-k.k _ h c.loop-k-test.true (sym c.sample_fits.ensures ∙ c.if-not-sample_fits.false))
 
 pub returns : goal.returns
 unfolding samples_fit

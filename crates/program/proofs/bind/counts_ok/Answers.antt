@@ -17,10 +17,10 @@ pub counts_in-requires : goal.counts_in-requires
 counts_in-requires c = part_length c.args.words.now c.loop-i.i (omega arith)
 
 pub returns-then-not-counts_in : goal.returns-then-not-counts_in
-returns-then-not-counts_in c = let l = c.loop-i in sym (l.invariant.1 ∙ fails (λ i k. every (map (counts_in c.args.words.now) (indexes i k))) (counts_in c.args.words.now) 1 (λ at. refl) (λ at n. refl) l.i c.args.n l.i c.loop-i-test.true (sym (ap (λ r. every (counts_tests r)) (there c.args.words.now l.i (omega arith))) ∙ sym c.counts_in.ensures ∙ not-true _ c.if-not-counts_in.true-raw))
+returns-then-not-counts_in c = let l = c.loop-i in sym (l.invariant.1 ∙ fails (λ i k. every (map (counts_in c.args.words.now) (indexes i k))) (counts_in c.args.words.now) 1 (λ at. refl) (λ at n. refl) l.i c.args.n l.i c.loop-i-test.true (sym (ap (λ r. every (counts_tests r)) (there c.args.words.now l.i (omega arith))) ∙ sym c.counts_in.ensures ∙ c.if-not-counts_in.true))
 
 pub loop-i-preserved : goal.loop-i-preserved
-loop-i-preserved c = let l = c.loop-i in (omega arith, l.invariant.1 ∙ passes (λ i k. every (map (counts_in c.args.words.now) (indexes i k))) (counts_in c.args.words.now) 1 (λ at. refl) (λ at n. refl) l.i c.args.n l.i c.loop-i-test.true (sym (ap (λ r. every (counts_tests r)) (there c.args.words.now l.i (omega arith))) ∙ sym c.counts_in.ensures ∙ not-false _ c.if-not-counts_in.false-raw))
+loop-i-preserved c = let l = c.loop-i in (omega arith, l.invariant.1 ∙ passes (λ i k. every (map (counts_in c.args.words.now) (indexes i k))) (counts_in c.args.words.now) 1 (λ at. refl) (λ at n. refl) l.i c.args.n l.i c.loop-i-test.true (sym (ap (λ r. every (counts_tests r)) (there c.args.words.now l.i (omega arith))) ∙ sym c.counts_in.ensures ∙ c.if-not-counts_in.false))
 
 pub returns : goal.returns
 returns c = let l = c.loop-i in sym (l.invariant.1 ∙ ends (λ i k. every (map (counts_in c.args.words.now) (indexes i k))) (counts_in c.args.words.now) 1 (λ at. refl) (λ at n. refl) l.i c.args.n l.i c.loop-i-test.false)

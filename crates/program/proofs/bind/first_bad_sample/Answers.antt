@@ -13,10 +13,10 @@ pub loop-j-init : goal.loop-j-init
 loop-j-init c = (omega arith, ap (first_bad (sample_in c.args.samples.now c.args.frames.now) 0) (sym (sub-zero c.args.n)))
 
 pub returns-then-not-sample_ok : goal.returns-then-not-sample_ok
-returns-then-not-sample_ok c = let l = c.loop-j in sym (l.invariant.1 ∙ bad-here (sample_in c.args.samples.now c.args.frames.now) l.j c.args.n c.loop-j-test.true (ap (λ s. every (sample_tests c.args.frames.now s)) (sym c.sample_at-s.ensures) ∙ sym c.sample_ok.ensures ∙ not-true _ c.if-not-sample_ok.true-raw))
+returns-then-not-sample_ok c = let l = c.loop-j in sym (l.invariant.1 ∙ bad-here (sample_in c.args.samples.now c.args.frames.now) l.j c.args.n c.loop-j-test.true (ap (λ s. every (sample_tests c.args.frames.now s)) (sym c.sample_at-s.ensures) ∙ sym c.sample_ok.ensures ∙ c.if-not-sample_ok.true))
 
 pub loop-j-preserved : goal.loop-j-preserved
-loop-j-preserved c = let l = c.loop-j in (omega arith, l.invariant.1 ∙ bad-later (sample_in c.args.samples.now c.args.frames.now) l.j c.args.n c.loop-j-test.true (ap (λ s. every (sample_tests c.args.frames.now s)) (sym c.sample_at-s.ensures) ∙ sym c.sample_ok.ensures ∙ not-false _ c.if-not-sample_ok.false-raw))
+loop-j-preserved c = let l = c.loop-j in (omega arith, l.invariant.1 ∙ bad-later (sample_in c.args.samples.now c.args.frames.now) l.j c.args.n c.loop-j-test.true (ap (λ s. every (sample_tests c.args.frames.now s)) (sym c.sample_at-s.ensures) ∙ sym c.sample_ok.ensures ∙ c.if-not-sample_ok.false))
 
 pub returns : goal.returns
 returns c = let l = c.loop-j in sym (l.invariant.1 ∙ bad-none (sample_in c.args.samples.now c.args.frames.now) l.j c.args.n c.loop-j-test.false)

@@ -13,10 +13,10 @@ pub loop-j-init : goal.loop-j-init
 loop-j-init c = (omega arith, ap (first_bad (shape_in c.args.samples.now c.args.total) 0) (sym (sub-zero c.args.n)))
 
 pub returns-then-not-shape_ok : goal.returns-then-not-shape_ok
-returns-then-not-shape_ok c = let l = c.loop-j in sym (l.invariant.1 ∙ bad-here (shape_in c.args.samples.now c.args.total) l.j c.args.n c.loop-j-test.true (ap (λ s. every (shape_tests c.args.total s)) (sym c.sample_at-s.ensures) ∙ sym c.shape_ok.ensures ∙ not-true _ c.if-not-shape_ok.true-raw))
+returns-then-not-shape_ok c = let l = c.loop-j in sym (l.invariant.1 ∙ bad-here (shape_in c.args.samples.now c.args.total) l.j c.args.n c.loop-j-test.true (ap (λ s. every (shape_tests c.args.total s)) (sym c.sample_at-s.ensures) ∙ sym c.shape_ok.ensures ∙ c.if-not-shape_ok.true))
 
 pub loop-j-preserved : goal.loop-j-preserved
-loop-j-preserved c = let l = c.loop-j in (omega arith, l.invariant.1 ∙ bad-later (shape_in c.args.samples.now c.args.total) l.j c.args.n c.loop-j-test.true (ap (λ s. every (shape_tests c.args.total s)) (sym c.sample_at-s.ensures) ∙ sym c.shape_ok.ensures ∙ not-false _ c.if-not-shape_ok.false-raw))
+loop-j-preserved c = let l = c.loop-j in (omega arith, l.invariant.1 ∙ bad-later (shape_in c.args.samples.now c.args.total) l.j c.args.n c.loop-j-test.true (ap (λ s. every (shape_tests c.args.total s)) (sym c.sample_at-s.ensures) ∙ sym c.shape_ok.ensures ∙ c.if-not-shape_ok.false))
 
 pub returns : goal.returns
 returns c = let l = c.loop-j in sym (l.invariant.1 ∙ bad-none (shape_in c.args.samples.now c.args.total) l.j c.args.n c.loop-j-test.false)

@@ -26,10 +26,10 @@ returns-then-table-lt8194 c = every-no (program_tests c.args.b c.args.words.now 
 
 pub returns-then-not-all_counts_ok : goal.returns-then-not-all_counts_ok
 unfolding program_ok
-returns-then-not-all_counts_ok c = every-no (program_tests c.args.b c.args.words.now c.args.samples.now c.args.frames c.args.table) 4 (sym c.all_counts_ok.ensures ∙ not-true _ c.if-not-all_counts_ok.true-raw)
+returns-then-not-all_counts_ok c = every-no (program_tests c.args.b c.args.words.now c.args.samples.now c.args.frames c.args.table) 4 (sym c.all_counts_ok.ensures ∙ c.if-not-all_counts_ok.true)
 
 pub first_bad_region-requires : goal.first_bad_region-requires
-first_bad_region-requires c = (div-mul-le_self (length c.args.words.now) 392, few-parts c.args.words.now c.args.samples.now (sym c.all_counts_ok.ensures ∙ not-false _ c.if-not-all_counts_ok.false-raw))
+first_bad_region-requires c = (div-mul-le_self (length c.args.words.now) 392, few-parts c.args.words.now c.args.samples.now (sym c.all_counts_ok.ensures ∙ c.if-not-all_counts_ok.false))
 
 pub returns-then-first_bad_region-n : goal.returns-then-first_bad_region-n
 unfolding program_ok
@@ -37,4 +37,4 @@ returns-then-first_bad_region-n c = every-no (program_tests c.args.b c.args.word
 
 pub returns : goal.returns
 unfolding program_ok
-returns c = after (eq-eqb _ _ c.if-n-b.false) (after (eq-eqb _ _ c.if-m-b.false) (after (le-leb _ _ c.if-frames-b.false) (after (le-leb _ _ c.if-table-lt8194.false) (after (sym c.all_counts_ok.ensures ∙ not-false _ c.if-not-all_counts_ok.false-raw) (after (no-region c.args.words.now c.args.samples.now _ _ c.if-m-b.false c.first_bad_region.ensures c.if-first_bad_region-n.false) (final (by-shapes c.args.words.now c.args.samples.now _ _ c.if-m-b.false _ c.first_bad_shape.ensures)))))))
+returns c = after (eq-eqb _ _ c.if-n-b.false) (after (eq-eqb _ _ c.if-m-b.false) (after (le-leb _ _ c.if-frames-b.false) (after (le-leb _ _ c.if-table-lt8194.false) (after (sym c.all_counts_ok.ensures ∙ c.if-not-all_counts_ok.false) (after (no-region c.args.words.now c.args.samples.now _ _ c.if-m-b.false c.first_bad_region.ensures c.if-first_bad_region-n.false) (final (by-shapes c.args.words.now c.args.samples.now _ _ c.if-m-b.false _ c.first_bad_shape.ensures)))))))

@@ -19,7 +19,7 @@ pub finite_run-requires : goal.finite_run-requires
 finite_run-requires c = omega (arith, c.requires.1)
 
 pub returns-then-not-finite_run : goal.returns-then-not-finite_run
-returns-then-not-finite_run c = let l = c.loop-k in sym (l.invariant.3 ∙ fails (FiltersFrom c.args.r.now) (λ at. all_finite (filter_numbers (filter_of c.args.r.now at))) 7 (λ at. refl) (λ at n. refl) l.at (get_or c.args.r.now 27 0) l.k c.loop-k-test.true (sym (filter-run c.args.r.now l.at) ∙ sym c.finite_run.ensures ∙ not-true _ c.if-not-finite_run.true-raw))
+returns-then-not-finite_run c = let l = c.loop-k in sym (l.invariant.3 ∙ fails (FiltersFrom c.args.r.now) (λ at. all_finite (filter_numbers (filter_of c.args.r.now at))) 7 (λ at. refl) (λ at n. refl) l.at (get_or c.args.r.now 27 0) l.k c.loop-k-test.true (sym (filter-run c.args.r.now l.at) ∙ sym c.finite_run.ensures ∙ c.if-not-finite_run.true))
 
 pub overflow_add-at-in-loop-k : goal.overflow_add-at-in-loop-k
 overflow_add-at-in-loop-k c = record { fits = omega (arith, c.requires.1) }
@@ -28,7 +28,7 @@ pub overflow_add-k : goal.overflow_add-k
 overflow_add-k c = record { fits = omega (arith, c.requires.1) }
 
 pub loop-k-preserved : goal.loop-k-preserved
-loop-k-preserved c = let l = c.loop-k in (omega arith, omega arith, refl, l.invariant.3 ∙ passes (FiltersFrom c.args.r.now) (λ at. all_finite (filter_numbers (filter_of c.args.r.now at))) 7 (λ at. refl) (λ at n. refl) l.at (get_or c.args.r.now 27 0) l.k c.loop-k-test.true (sym (filter-run c.args.r.now l.at) ∙ sym c.finite_run.ensures ∙ not-false _ c.if-not-finite_run.false-raw))
+loop-k-preserved c = let l = c.loop-k in (omega arith, omega arith, refl, l.invariant.3 ∙ passes (FiltersFrom c.args.r.now) (λ at. all_finite (filter_numbers (filter_of c.args.r.now at))) 7 (λ at. refl) (λ at n. refl) l.at (get_or c.args.r.now 27 0) l.k c.loop-k-test.true (sym (filter-run c.args.r.now l.at) ∙ sym c.finite_run.ensures ∙ c.if-not-finite_run.false))
 
 pub returns : goal.returns
 returns c = let l = c.loop-k in sym (l.invariant.3 ∙ ends (FiltersFrom c.args.r.now) (λ at. all_finite (filter_numbers (filter_of c.args.r.now at))) 7 (λ at. refl) (λ at n. refl) l.at (get_or c.args.r.now 27 0) l.k c.loop-k-test.false)

@@ -7,7 +7,7 @@ use mathlib.Core.Path.{sym, ap, ◌∙◌}
 use Rattle.program.proofs.check.keys_ok.Goals as goal
 
 pub returns-then-not-keys_run : goal.returns-then-not-keys_run
-returns-then-not-keys_run c = let r = c.args.r.now in sym (keys-are r ∙ ap (λ t. t && every (window_tests (region_of r))) (sym c.keys_run.ensures ∙ not-true _ c.if-not-keys_run.true-raw))
+returns-then-not-keys_run c = let r = c.args.r.now in sym (keys-are r ∙ ap (λ t. t && every (window_tests (region_of r))) (sym c.keys_run.ensures ∙ c.if-not-keys_run.true))
 
 pub returns : goal.returns
-returns c = let r = c.args.r.now in c.windows_ok.ensures ∙ sym (keys-are r ∙ ap (λ t. t && every (window_tests (region_of r))) (sym c.keys_run.ensures ∙ not-false _ c.if-not-keys_run.false-raw))
+returns c = let r = c.args.r.now in c.windows_ok.ensures ∙ sym (keys-are r ∙ ap (λ t. t && every (window_tests (region_of r))) (sym c.keys_run.ensures ∙ c.if-not-keys_run.false))

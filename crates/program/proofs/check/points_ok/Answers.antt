@@ -5,7 +5,7 @@ use mathlib.Core.Path.{sym, ◌∙◌}
 use Rattle.program.proofs.check.points_ok.Goals as goal
 
 pub returns-then-not-keys_run : goal.returns-then-not-keys_run
-returns-then-not-keys_run c = every-no (point_tests c.args.r.now) 0 (sym c.keys_run.ensures ∙ not-true _ c.if-not-keys_run.true-raw)
+returns-then-not-keys_run c = every-no (point_tests c.args.r.now) 0 (sym c.keys_run.ensures ∙ c.if-not-keys_run.true)
 
 pub returns : goal.returns
-returns c = after (sym c.keys_run.ensures ∙ not-false _ c.if-not-keys_run.false-raw) (final c.finite_run.ensures)
+returns c = after (sym c.keys_run.ensures ∙ c.if-not-keys_run.false) (final c.finite_run.ensures)

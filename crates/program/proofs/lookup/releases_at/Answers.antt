@@ -8,10 +8,10 @@ use mathlib.Core.Path.{refl, sym, ap, ◌∙◌}
 use Rattle.program.proofs.lookup.releases_at.Goals as goal
 
 pub returns-then-not-is_release : goal.returns-then-not-is_release
-returns-then-not-is_release c = no-and _ (ap (λ (x : Choice). is_release x.trigger) (sym c.choice_at-x.ensures) ∙ sym c.is_release.ensures ∙ not-true _ c.if-not-is_release.true-raw)
+returns-then-not-is_release c = no-and _ (ap (λ (x : Choice). is_release x.trigger) (sym c.choice_at-x.ensures) ∙ sym c.is_release.ensures ∙ c.if-not-is_release.true)
 
 pub returns-then-vel-w : goal.returns-then-vel-w
-returns-then-vel-w c = after (ap (λ (x : Choice). is_release x.trigger) (sym c.choice_at-x.ensures) ∙ sym c.is_release.ensures ∙ not-false _ c.if-not-is_release.false-raw) (below-it _ _ _ _ _ _ (ap (λ (v : Window). v.lovel) c.window_at-w.ensures) (ap (λ (v : Window). v.hivel) c.window_at-w.ensures) refl c.if-vel-w.true)
+returns-then-vel-w c = after (ap (λ (x : Choice). is_release x.trigger) (sym c.choice_at-x.ensures) ∙ sym c.is_release.ensures ∙ c.if-not-is_release.false) (below-it _ _ _ _ _ _ (ap (λ (v : Window). v.lovel) c.window_at-w.ensures) (ap (λ (v : Window). v.hivel) c.window_at-w.ensures) refl c.if-vel-w.true)
 
 pub returns : goal.returns
-returns c = after (ap (λ (x : Choice). is_release x.trigger) (sym c.choice_at-x.ensures) ∙ sym c.is_release.ensures ∙ not-false _ c.if-not-is_release.false-raw) (not-below _ _ _ _ _ _ (ap (λ (v : Window). v.lovel) c.window_at-w.ensures) (ap (λ (v : Window). v.hivel) c.window_at-w.ensures) refl c.if-vel-w.false)
+returns c = after (ap (λ (x : Choice). is_release x.trigger) (sym c.choice_at-x.ensures) ∙ sym c.is_release.ensures ∙ c.if-not-is_release.false) (not-below _ _ _ _ _ _ (ap (λ (v : Window). v.lovel) c.window_at-w.ensures) (ap (λ (v : Window). v.hivel) c.window_at-w.ensures) refl c.if-vel-w.false)
