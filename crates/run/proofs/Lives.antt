@@ -72,6 +72,7 @@ data From (id n m : ℕ) (rs : List PlayerRecord) (q : PlayerRecord) : Type 0 wh
   came : {r : PlayerRecord} → In r rs → unmarked q ≡ unmarked r → (r.offed ≡ true → q.offed ≡ true) → From id n m rs q
 
 in_kept : (p : PlayerRecord → Bool) (rs : List PlayerRecord) (q : PlayerRecord) → In q (keep p rs) → In q rs
+in_kept p [] q h = elim h [ ]
 in_kept p (r ∷ rs) q h = by-case q (p r) (in_kept p rs q) h where
   by-case : (q : PlayerRecord) (t : Bool) → (In q (keep p rs) → In q rs) → In q (pick t (r ∷ keep p rs) (keep p rs)) → In q (r ∷ rs)
   by-case q true f here = here
@@ -86,6 +87,7 @@ kept_in p (there {r} {q} {rs} i) e = by-case (p q) (kept_in p i e) where
   by-case false k = k
 
 kept-holds : (p : PlayerRecord → Bool) (rs : List PlayerRecord) (q : PlayerRecord) → In q (keep p rs) → p q ≡ true
+kept-holds p [] q h = elim h [ ]
 kept-holds p (r ∷ rs) q h = by-case q (p r) refl (kept-holds p rs q) h where
   by-case : (q : PlayerRecord) (t : Bool) → p r ≡ t → (In q (keep p rs) → p q ≡ true) → In q (pick t (r ∷ keep p rs) (keep p rs)) → p q ≡ true
   by-case q true e f here = e
@@ -98,6 +100,7 @@ in-fewer p j rs q i = kept_in (of_voice j) (in_kept p rs q (in_kept (of_voice j)
 
 in-append : (rs : List PlayerRecord) (e q : PlayerRecord) → In q (rs ++ (e ∷ [])) → (P : PlayerRecord → Type 0) → ((r : PlayerRecord) → In r rs → P r) → P e → P q
 in-append [] e q here P f g = g
+in-append [] e q (there i) P f g = elim i [ ]
 in-append (r ∷ rs) e q here P f g = f r here
 in-append (r ∷ rs) e q (there i) P f g = in-append rs e q i P (λ x k. f x (there k)) g
 
@@ -111,6 +114,7 @@ module _ (id n m : ℕ) where
 
   along-from : {R : PlayerRecord → PlayerRecord → Type 0} → ((r q : PlayerRecord) → R r q → (unmarked q ≡ unmarked r) × (r.offed ≡ true → q.offed ≡ true))
       → {rs qs : List PlayerRecord} → Along R rs qs → (q : PlayerRecord) → In q qs → From id n m rs q
+  along-from f end q i = elim i [ ]
   along-from f (one {x = x} {y = y} r rest) q here = came here (f x y r).0 (f x y r).1
   along-from f (one r rest) q (there i) = later (along-from f rest q i)
 
@@ -216,9 +220,9 @@ kept-one {id} {n} {d} {c = c} {xs = xs} m h = subst (λ ys. Kept id (n + players
 
 from-moves : {id n d : ℕ} {b c : Both} {xs : List Started} → Moves id b xs c → Kept id n d b → (q : PlayerRecord) → In q (view c.session) → From id n (n + players_in xs) (view b.session) q
 from-moves {id} {n} {b = b} done h q j = stayed id n (n + 0) (view b.session) q j
-from-moves {id} {n} (next {b = b} {d = e} {xs = xs} {ys = ys} m rest) h q j =
+from-moves {id} {n} {d} (next {b = b} {d = e} {xs = xs} {ys = ys} m rest) h q j =
     subst (λ k. From id n k (view b.session) q) (sym (omega (arith, players-append xs ys)))
-    (from-twice (omega arith) (omega arith) (from-move m h) q (from-moves rest (kept-one m h) q j))
+    (from-twice (omega arith) (omega arith) (from-move m h) q (from-moves {n = n + players_in xs} {d = d + drops_in xs} rest (kept-one m h) q j))
 
 -- the records of each voice after a chain of one voice's moves
 pub since-moves : {id n d : ℕ} {b c : Both} {xs : List Started} → Moves id b xs c → Kept id n d b → (j k : ℕ) → (j ≡ id → k ≡ n) → (j ≡ id → n + players_in xs < 2 ^ 32)

@@ -53,7 +53,7 @@ kept {id = id} {s = s} {d = d} (done {b}) h = nothing-more id s d b h
 kept {id = id} {s = s} {d = d} (next {d = e} {xs = xs} {ys = ys} m ms) h =
     kept_at id (s + players_in xs + players_in ys) (d + drops_in xs + drops_in ys) (s + players_in (xs ++ ys)) (d + drops_in (xs ++ ys)) e
     (omega (arith, number-both (λ x. not (is_dropped x)) xs ys)) (omega (arith, number-both is_dropped xs ys))
-    (kept ms (kept_move s d m h))
+    (kept {s = s + players_in xs} {d = d + drops_in xs} ms (kept_move s d m h))
 
 -- the starts mark the records of another voice one after the other, and nothing else changes them
 pub others : {id s d : ℕ} {b c : Both} {xs : List Started} → Moves id b xs c → Kept id s d b → (j : ℕ) → (j ≡ id → ⊥)
@@ -62,7 +62,7 @@ others done h j n = refl
 others {id = id} {s = s} {d = d} (next {b = b} {c = c} {d = e} {xs = xs} {ys = ys} m ms) h j n =
     follows_then j xs ys (records_of j (view b.session)) (records_of j (view c.session)) (records_of j (view e.session))
     (row-follows id j n (row_move s d m h))
-    (others ms (kept_move s d m h) j n)
+    (others {s = s + players_in xs} {d = d + drops_in xs} ms (kept_move s d m h) j n)
 
 -- no voice is made or closed
 pub voices-same : {id : ℕ} {b c : Both} {xs : List Started} → Moves id b xs c → c.session.voices ≡ b.session.voices
@@ -73,5 +73,5 @@ voices-same (next m ms) = voices-same ms ∙ voices-move m
 pub no-stray-after : {id s d : ℕ} {b c : Both} {xs : List Started} → Moves id b xs c → Kept id s d b → (is : List ℕ) → elem id is ≡ true
     → any (λ r. not (elem r.voice is)) (view b.session) ≡ false → any (λ r. not (elem r.voice is)) (view c.session) ≡ false
 no-stray-after done h is live e = e
-no-stray-after {s = s} {d = d} (next m ms) h is live e =
-    no-stray-after ms (kept_move s d m h) is live (row-stray is live (row_move s d m h) e)
+no-stray-after {s = s} {d = d} (next {xs = xs} m ms) h is live e =
+    no-stray-after {s = s + players_in xs} {d = d + drops_in xs} ms (kept_move s d m h) is live (row-stray is live (row_move s d m h) e)
