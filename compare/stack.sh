@@ -1,10 +1,10 @@
 #!/bin/sh
-# compare/stack.sh PROGRAM FUNCTION: the stack that a call of FUNCTION can take at most in the compiled target/bin/PROGRAM, in bytes, and
+# compare/stack.sh PROGRAM FUNCTION: the stack that a call of FUNCTION can take at most in the compiled crates/PROGRAM/out/PROGRAM, in bytes, and
 # the chain of calls that takes it. Read from the frames: each function's pushes and its frame, with 8 bytes for each call; no function
 # calls itself or through a pointer. Calls into the C library (memcpy, memset) count their return address alone.
 set -eu
 cd "$(dirname "$0")/.."
-objdump -d --no-show-raw-insn "target/bin/$1" | awk -v root="$2" '
+objdump -d --no-show-raw-insn "crates/$1/out/$1" | awk -v root="$2" '
     function hex(s,   i, n) { n = 0; s = tolower(s); for (i = 3; i <= length(s); i++) n = n * 16 + index("0123456789abcdef", substr(s, i, 1)) - 1; return n }
     function name_in(s) { sub(/^[^<]*</, "", s); sub(/>[^>]*$/, "", s); return s }
     /^[0-9a-f]+ <.*>:$/ { f = name_in($0); frame[f] = 0; probed = 0; next }
