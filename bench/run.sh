@@ -13,31 +13,22 @@ what=${1:-all}
 rounds=${2:-11}
 case $what in all | table | growth | counts | shares | write) ;; *) sed -n '2,6s/^# //p' bench/run.sh >&2; exit 2 ;; esac
 
-# The port's side: a program over the voice, proved and compiled as any program of the repository, in a tree of its own that
-# shares the proved crates.
-mkdir -p "$work/crates/bench/src" "$work/target" target/rlib target/stamp
-for c in crates/*/; do ln -sfn "$here/$c" "$work/crates/$(basename "$c")"; done
-for d in rlib stamp; do ln -sfn "$here/target/$d" "$work/target/$d"; done
-for f in bench/port/*.rt.txt; do cp "$f" "$work/crates/bench/src/$(basename "$f" .txt)"; done
-for f in bench/port/*.antt.txt; do
-    proof=$work/crates/bench/proofs/$(basename "$f" .antt.txt | tr . /)
-    mkdir -p "$proof"
-    cp "$f" "$proof/Proof.antt"
-done
+# The port's side: a program over the voice, proved and compiled as any program of the repository, in a tree of its own.
+mkdir -p "$work"
+compare/tree.sh "$here" "$work" bench bench/port $(sed -n 's/^voice: //p' crates.txt) voice
 printf '3 ' >"$work/crates/bench/stdout" # on no input: no sample
 { cat crates.txt; echo "bench: $(sed -n 's/^voice: //p' crates.txt) voice io libc"; } >"$work/crates.txt"
-port=$work/target/bin/bench
-[ -x "$port" ] || rm -f target/stamp/bench
-(cd "$work" && rt check bench) >"$work/check.log" 2>&1 || { cat "$work/check.log" >&2; exit 1; }
+port=$work/crates/bench/out/bench
+(cd "$work/crates/bench" && rt run </dev/null) >"$work/check.log" 2>&1 || { cat "$work/check.log" >&2; exit 1; }
 
 # The Rust's side and the driver: the oracle with one program more, which calls the port's own seven float functions.
-rt staticlib fx >&2
+(cd crates/fx && rt lib) >&2
 rm -rf "$work/oracle"
 cp -r "$shared/oracle" "$work/oracle"
 chmod -R u+w "$work/oracle"
 mkdir "$work/oracle/src/bin/voices"
 cp bench/rust/*.rs "$work/oracle/src/bin/voices"
-(cd "$work/oracle" && ORACLE_SEEDS=$shared/docs/src ORACLE_FX_DIR=$here/target/staticlib ORACLE_FX_LIB=fx \
+(cd "$work/oracle" && ORACLE_SEEDS=$shared/docs/src ORACLE_FX_DIR=$here/crates/fx/out ORACLE_FX_LIB=fx \
     cargo build --offline --release -q --features fx_extern --bin voices --target-dir "$work/cargo")
 voices=$work/cargo/release/voices
 # What counts the copies.

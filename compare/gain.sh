@@ -5,9 +5,7 @@ set -eu
 cd "$(dirname "$0")/.."
 here=$PWD
 work=$here/target/compare/gain
-mkdir -p "$work/crates/gain_calls/src"
-for c in exact elementary program filter gain filter_design; do ln -sfn "$here/crates/$c" "$work/crates/$c"; done
-cp compare/gain/calls.rt.txt "$work/crates/gain_calls/src/lib.rt"
+compare/tree.sh "$here" "$work" gain_calls compare/gain exact elementary program filter gain filter_design
 cat >"$work/crates.txt" <<'LIST'
 exact:
 elementary: exact
@@ -15,9 +13,9 @@ program: exact
 filter:
 gain: exact elementary program
 filter_design: exact elementary filter program gain
-gain_calls: exact elementary program filter gain filter_design
+gain_calls staticlib: exact elementary program filter gain filter_design
 LIST
-(cd "$work" && rt staticlib gain_calls) >&2
+(cd "$work/crates/gain_calls" && rt lib) >&2
 # the oracle with accessors to what the Rust keeps private
 rm -rf "$work/oracle"
 cp -r ../shared/oracle "$work/oracle"
@@ -25,5 +23,5 @@ chmod -R u+w "$work/oracle"
 for f in filters sample_voice; do cat "compare/gain/$f.append.rs" >>"$work/oracle/src/append/$f.rs"; done
 cp compare/gain/compare.rs "$work/oracle/src/bin/compare.rs"
 cd "$work/oracle"
-export ORACLE_SEEDS="$here/../shared/docs/src" ORACLE_FX_DIR="$work/target/staticlib" ORACLE_FX_LIB=gain_calls
+export ORACLE_SEEDS="$here/../shared/docs/src" ORACLE_FX_DIR="$work/crates/gain_calls/out" ORACLE_FX_LIB=gain_calls
 exec cargo run --offline --release -q --features fx_extern --bin compare --target-dir "$work/cargo" -- "$@"

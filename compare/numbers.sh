@@ -7,7 +7,7 @@ cd "$(dirname "$0")/.."
 driver=$1
 shift
 case $driver in exact) library=exact_calls ;; *) library=fx ;; esac
-rt lib "$library" >&2
+(cd "crates/$library" && rt lib) >&2
 mkdir -p target/compare
 rustc --edition 2021 -O -L "crates/$library/out" -l static="$library" -o "target/compare/$driver" "compare/$driver.rs"
 exec "target/compare/$driver" "$@"

@@ -20,9 +20,9 @@ esac
 mkdir -p "$work"
 cargo build --offline --release -q --manifest-path compare/run/Cargo.toml --target-dir "$work/cargo"
 [ -n "$lister" ] || exec "$scripts" "$@"
-rt lib fx >&2
+(cd crates/fx && rt lib) >&2
 ORACLE_FX_DIR=$here/crates/fx/out ORACLE_FX_LIB=fx cargo build --offline --release -q --features fx_extern --bins \
     --manifest-path ../shared/oracle/Cargo.toml --target-dir "$rust"
 if [ "$1" = store ]; then exec "$scripts" store "$rust/release/${lister}_oracle" "$lister" "compare/replay/$lister.txt" "crates/${lister}_replay" 40 7; fi
-[ -n "${PORT-}" ] || rt run "${lister}_lister" </dev/null >/dev/null
+[ -n "${PORT-}" ] || (cd "crates/${lister}_lister" && rt run </dev/null >/dev/null)
 exec "$scripts" "${PORT-crates/${lister}_lister/out/${lister}_lister}" "$rust/release/${lister}_oracle" "$work" "$@"
