@@ -15,9 +15,10 @@ case $what in all | table | growth | counts | shares | write) ;; *) sed -n '2,6s
 
 # The port's side: a program over the voice, proved and compiled as any program of the repository, in a tree of its own.
 mkdir -p "$work"
-compare/tree.sh "$here" "$work" bench bench/port $(sed -n 's/^voice: //p' crates.txt) voice
+below="$(sed -n 's/^voice: //p' crates.txt) voice"
+compare/tree.sh "$here" "$work" bench bench/port $below
 printf '3 ' >"$work/crates/bench/stdout" # on no input: no sample
-{ cat crates.txt; echo "bench: $(sed -n 's/^voice: //p' crates.txt) voice io libc"; } >"$work/crates.txt"
+{ for c in $below; do grep "^$c:" crates.txt; done; echo "bench: $below io libc"; } >"$work/crates.txt"
 port=$work/crates/bench/out/bench
 (cd "$work/crates/bench" && rt run </dev/null) >"$work/check.log" 2>&1 || { cat "$work/check.log" >&2; exit 1; }
 
