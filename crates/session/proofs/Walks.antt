@@ -9,10 +9,6 @@ use Rattle.session.specs.State.{view, with_players, relist}
 use Rattle.session.specs.declared.PlayerRecord.{PlayerRecord}
 use Rattle.session.specs.declared.Session.{Session}
 
--- an array's list has as many elements as its type says
-pub long : {X Y : Type 0} (g : X → Y) (l : List X) (n : ℕ) → length (map g l) ≡ n → length l ≡ n
-long g l n e = sym (length-map l g) ∙ e
-
 pub used-below : (cap n : ℕ) → used_of cap n ≤ cap
 used-below cap n = by-case (ltb n cap) refl where
   by-case : (t : Bool) → ltb n cap ≡ t → pick t n cap ≤ cap
