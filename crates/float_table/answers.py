@@ -107,28 +107,28 @@ NAMES = [
 rows = [(k, b, of(b)) for k, (_, of, more) in enumerate(NAMES) for b in EVERY + more]
 
 
-def kind(k, r):
-    """0 where 01 says what the result is; else how near: 1 a part of itself, 2 an absolute bound, 3 log2's."""
+def tolerance(k, r):
+    """None where 01 says what the result is; else how near it has to be."""
     if r in (0, 0x80000000, NAN, INF, NEGINF):
-        return 0
-    return {"log2": 3, "sin": 2, "cos": 2}.get(NAMES[k][0], 1)
+        return "None"
+    return "Some(%s)" % {"log2": "PowerPart", "sin": "Bound", "cos": "Bound"}.get(NAMES[k][0], "Part")
 
 
-def table(name, kind, items):
-    lines = "".join(f"    {i},\n" for i in items)
-    return f"pub const {name}: [{kind}; {len(rows)}] = [\n{lines}];\n"
+def pattern(b):
+    return f"0x{b >> 16:04x}_{b & 0xFFFF:04x}"
 
 
 here = os.path.dirname(os.path.abspath(__file__))
 with open(os.path.join(here, "src/tables.rt"), "w") as f:
-    f.write("// Which function, at which argument's bits, the result to 60 digits as a single, and what 01 says of it: 0 that it is this\n")
-    f.write("// one, 1 within one part in 4,194,304 of it, 2 within 1/4,194,304, 3 its power of two within one part in 131,072.\n")
-    f.write("// answers.py writes this file.\n")
-    f.write(table("FUNCTIONS", "u8", [k for k, _, _ in rows]) + "\n")
-    f.write(table("ARGUMENTS", "u32", [f"0x{b >> 16:04x}_{b & 0xFFFF:04x}" for _, b, _ in rows]) + "\n")
-    f.write(table("RESULTS", "u32", [f"0x{r >> 16:04x}_{r & 0xFFFF:04x}" for _, _, r in rows]) + "\n")
-    f.write(table("KINDS", "u8", [kind(k, r) for k, _, r in rows]))
+    f.write("// The function, the argument's bits, those of the result to 60 digits as a single, and how near to it 01 asks; no tolerance where it\n")
+    f.write("// says that the result is this one. answers.py writes this file.\n")
+    f.write("use crate::function::Function::{self, Cos, Exp, Exp2, Log2, Pow10, Sin, Sinh};\n")
+    f.write("use crate::tolerance::Tolerance::{self, Bound, Part, PowerPart};\n\n")
+    f.write(f"pub const ROWS: [(Function, u32, u32, Option<Tolerance>); {len(rows)}] = [\n")
+    for k, b, r in rows:
+        f.write(f"    ({NAMES[k][0].capitalize()}, {pattern(b)}, {pattern(r)}, {tolerance(k, r)}),\n")
+    f.write("];\n")
 with open(os.path.join(here, "stdout"), "w") as f:
     for k, b, r in rows:
-        f.write(f"{NAMES[k][0]} {b:08x} {'near ' if kind(k, r) else ''}{r:08x}\n")
+        f.write(f"{NAMES[k][0]} {b:08x} {'' if tolerance(k, r) == 'None' else 'near '}{r:08x}\n")
 print(len(rows), "rows")

@@ -1,5 +1,7 @@
 -- A block without events: no off time of the voice waits, and the gate stays. Its players are tuned, and all frames are one part. Assumes
 -- nothing.
+use Rattle.std.specs.List.{list_any, range_with_len}
+use Rattle.std.proofs.Common.{None, Option, Some, cond, filter, ◌||◌}
 use Prim.Native.Nat.{ℕ, ◌-◌, ◌<◌, ◌≤◌}
 use mathlib.Core.Path.{◌≡◌, refl, sym, ap, ◌∙◌}
 use mathlib.Core.Bool.{Bool, true, false, true≢false}
@@ -11,8 +13,7 @@ use lib.Seq.{take_all}
 use lib.Ieee.{Float}
 use borrow.Author.Tests.{lt-ltb, eq-eqb}
 use Rattle.exact.specs.Single.{f0}
-use Rattle.program.specs.Bind.{indexes}
-use Rattle.session.specs.Lists.{pick, any, keep, change_where}
+use Rattle.session.specs.Lists.{change_where}
 use Rattle.session.specs.Offs.{off_of, offs_of, collected_offs}
 use Rattle.session.specs.Records.{waits, collected}
 use Rattle.session.specs.Rules.{collect, mark_ended}
@@ -23,8 +24,6 @@ use Rattle.session.specs.declared.Session.{Session}
 use Rattle.session.specs.declared.Slots.{Slots}
 use Rattle.session.proofs.Relist.{relist-view}
 use Rattle.note.specs.Note.{note_of}
-use Rattle.note.specs.declared.MaybeNote.{MaybeNote}
-use Rattle.note.specs.declared.MaybeNote.TheVariants.{Absent, Present}
 use Rattle.note.specs.declared.NoteState.{NoteState}
 use Rattle.players.specs.Mix.{Sounds, Mixture, tuned_all, played_all}
 use Rattle.players.specs.Seats.{sounding, is_over, PlayersOk}
@@ -47,32 +46,32 @@ use Rattle.block.proofs.Framing.{still}
 
 -- ---- the session
 
-none-wait : (id : ℕ) (rs : List PlayerRecord) → any (waits id) rs ≡ false → (change_where (waits id) collected rs ≡ rs) × (keep (waits id) rs ≡ [])
+none-wait : (id : ℕ) (rs : List PlayerRecord) → list_any (waits id) rs ≡ false → (change_where (waits id) collected rs ≡ rs) × (filter (waits id) rs ≡ [])
 none-wait id [] e = (refl, refl)
 none-wait id (r ∷ rs) e = by-case (waits id r) e (none-wait id rs)
   where
-    by-case : (t : Bool) → pick t true (any (waits id) rs) ≡ false
-        → (any (waits id) rs ≡ false → (change_where (waits id) collected rs ≡ rs) × (keep (waits id) rs ≡ []))
-        → (pick t (collected r) r ∷ change_where (waits id) collected rs ≡ r ∷ rs) × (pick t (r ∷ keep (waits id) rs) (keep (waits id) rs) ≡ [])
+    by-case : (t : Bool) → t || list_any (waits id) rs ≡ false
+        → (list_any (waits id) rs ≡ false → (change_where (waits id) collected rs ≡ rs) × (filter (waits id) rs ≡ []))
+        → (cond t (collected r) r ∷ change_where (waits id) collected rs ≡ r ∷ rs) × (cond t (r ∷ filter (waits id) rs) (filter (waits id) rs) ≡ [])
     by-case true e rest = absurd (true≢false e)
     by-case false e rest = (ap (λ l. r ∷ l) (rest e).0, (rest e).1)
 
-none-collected : (id : ℕ) (s : Session) → length s.players ≡ 512 → s.count ≤ 512 → any (waits id) (view s) ≡ false
+none-collected : (id : ℕ) (s : Session) → length s.players ≡ 512 → s.count ≤ 512 → list_any (waits id) (view s) ≡ false
     → ◌≡◌ {A = Collected} (collected_offs id s) (record { session = s; offs = offs_of [] })
 unfolding collected_offs collect
 none-collected id s size few own =
     let w = none-wait id (view s) own in
-    ap (λ l. record { session = relist l s; offs = offs_of (map off_of (keep (waits id) (view s))) }) w.0
+    ap (λ l. record { session = relist l s; offs = offs_of (map off_of (filter (waits id) (view s))) }) w.0
     ∙ ap (λ l. record { session = relist (view s) s; offs = offs_of (map off_of l) }) w.1
     ∙ ap (λ (x : Session). record { session = x; offs = offs_of [] }) (relist-view s size few)
 
 -- ---- the voice
 
 -- the pitch that the block sets is how it tunes the players
-tuned-is : (c : Connected) (fs bs : List Float) (v : SampleVoice) (m : MaybeNote) → retuned_for c fs bs m v ≡ with_players (tuned_all (tune_of m c fs bs) v.players) v
+tuned-is : (c : Connected) (fs bs : List Float) (v : SampleVoice) (m : Option NoteState) → retuned_for c fs bs m v ≡ with_players (tuned_all (tune_of m c fs bs) v.players) v
 unfolding tuned_all tune_of
-tuned-is c fs bs v Absent = refl
-tuned-is c fs bs v (Present n) = refl
+tuned-is c fs bs v None = refl
+tuned-is c fs bs v (Some n) = refl
 
 -- ---- the frames
 
@@ -83,9 +82,9 @@ no-event : (c : Cues) (sc : Scene)
 unfolding frames_turned next_event
 no-event c sc e =
     let none : c.time.frames - c.time.frames ≡ 0 = omega arith in
-    ap (λ k. foldl (frame_turn c) sc (indexes 0 k)) (sym (sub-zero c.time.frames))
+    ap (λ k. foldl (frame_turn c) sc (range_with_len 0 k)) (sym (sub-zero c.time.frames))
     ∙ skip-to (frame_turn c) (event_on c) sc (still c sc) 0 c.time.frames c.time.frames (omega arith) (sym e)
-    ∙ ap (λ k. foldl (frame_turn c) sc (indexes c.time.frames k)) none
+    ∙ ap (λ k. foldl (frame_turn c) sc (range_with_len c.time.frames k)) none
 
 -- no off time, and no turn of the gate
 no-next : (t : BlockTime) (prev gated : Bool) (gate : List Float) → next_gate prev gated gate 0 t.frames ≡ t.frames
@@ -108,7 +107,7 @@ abbrev pub tuned_voice : Lent → SampleVoice → SampleVoice
 tuned_voice l v = with_players (tuned_all (tune_of v.note l.connected l.freq l.bend) v.players) v
 
 -- without events the frames are one part
-pub eventless : (l : Lent) (s : Session) (v : SampleVoice) → length s.players ≡ 512 → s.count ≤ 512 → any (waits v.voice) (view s) ≡ false
+pub eventless : (l : Lent) (s : Session) (v : SampleVoice) → length s.players ≡ 512 → s.count ≤ 512 → list_any (waits v.voice) (view s) ≡ false
     → next_gate v.gate_prev l.connected.gate l.gate 0 l.time.frames ≡ l.time.frames
     → played_block l s v ≡ played_of l (rendered_to (sounds_of (cues_of l)) l.time.frames (standing l s (tuned_voice l v)))
 unfolding played_block sounded_from block_start started_block retuned_voice
@@ -147,14 +146,14 @@ module _ (l : Lent) (s : Session) (v : SampleVoice) where
       let n = l.time.frames in
       let zs : List Float = replicate l.time.frames f0 in
       let m : Mixture = played_all x v.players zs zs in
-      ap (λ (t : Bool). played_of l (pick t (scene_after 0 n (standing l s v) (mixture_of x 0 n (standing l s v))) (standing l s v))) (lt-ltb 0 n some)
+      ap (λ (t : Bool). played_of l (cond t (scene_after 0 n (standing l s v) (mixture_of x 0 n (standing l s v))) (standing l s v))) (lt-ltb 0 n some)
       ∙ ap (λ (z : List Float). played_of l (scene_after 0 n (standing l s v) (played_all x v.players z z))) (clear-part n)
       ∙ ap (λ (z : List Float). settled_block m.mixed z (put_at 0 n zs m.right)) (put_whole n m.left)
       ∙ ap (settled_block m.mixed m.left) (put_whole n m.right)
 
 -- ---- the block
 
-pub calm-is : (l : Lent) (s : Session) (v : SampleVoice) → length s.players ≡ 512 → s.count ≤ 512 → any (waits v.voice) (view s) ≡ false
+pub calm-is : (l : Lent) (s : Session) (v : SampleVoice) → length s.players ≡ 512 → s.count ≤ 512 → list_any (waits v.voice) (view s) ≡ false
     → 0 < l.time.frames → next_gate v.gate_prev l.connected.gate l.gate 0 l.time.frames ≡ l.time.frames
     → played_block l s v
     ≡ (let m = calm_part (sounds_of (cues_of l)) (tune_of v.note l.connected l.freq l.bend) l.connected.amp l.amp v.players l.time.frames in
@@ -163,27 +162,27 @@ unfolding calm_part
 calm-is l s v size few own some stays = eventless l s v size few own stays ∙ rendered l s (tuned_voice l v) (sounds_of (cues_of l)) some
 
 -- where nothing ended and nobody is done, session and voice stay
-pub calm-stays : (e : Slots) (s : Session) (v : SampleVoice) → PlayersOk v.players → e.count ≡ 0 → any is_over (sounding v.players) ≡ false
+pub calm-stays : (e : Slots) (s : Session) (v : SampleVoice) → PlayersOk v.players → e.count ≡ 0 → list_any is_over (sounding v.players) ≡ false
     → settled e (record { session = s; voice = v }) ≡ record { session = s; voice = v }
 unfolding settled
 calm-stays e s v ok none on =
-    ap (λ (t : Bool). reaped_both (record { session = pick t s (relist (mark_ended v.voice (slot_list e) (view s)) s); voice = v })) (eq-eqb e.count 0 none)
+    ap (λ (t : Bool). reaped_both (record { session = cond t s (relist (mark_ended v.voice (slot_list e) (view s)) s); voice = v })) (eq-eqb e.count 0 none)
     ∙ sym (reap-none s v false (sym on) refl)
 
 -- ---- what the functions do, step by step
 
-module _ (c : Connected) (fs bs : List Float) (m : MaybeNote) where
-  pub tune-none : m ≡ Absent → record { on = false; note_f = f0; bend = f0 } ≡ tune_of m c fs bs
+module _ (c : Connected) (fs bs : List Float) (m : Option NoteState) where
+  pub tune-none : m ≡ None → record { on = false; note_f = f0; bend = f0 } ≡ tune_of m c fs bs
   unfolding tune_of
-  tune-none e = sym (ap (λ (k : MaybeNote). tune_of k c fs bs) e)
+  tune-none e = sym (ap (λ (k : Option NoteState). tune_of k c fs bs) e)
 
-  pub tune-some : (n : NoteState) → m ≡ Present n → (f : Float) → f ≡ input_at c.freq fs 0 f0 → (b : Float) → b ≡ input_at c.bend bs 0 f0
+  pub tune-some : (n : NoteState) → m ≡ Some n → (f : Float) → f ≡ input_at c.freq fs 0 f0 → (b : Float) → b ≡ input_at c.bend bs 0 f0
       → (d : Float) → d ≡ bend_of b → (x : Float) → x ≡ note_of f n.note_f → record { on = true; note_f = x; bend = d } ≡ tune_of m c fs bs
   unfolding tune_of
   tune-some n e f ef b eb d ed x ex =
       ap (λ (y : Float). record { on = true; note_f = y; bend = d }) (ex ∙ ap (λ (g : Float). note_of g n.note_f) ef)
       ∙ ap (λ (y : Float). record { on = true; note_f = note_of (input_at c.freq fs 0 f0) n.note_f; bend = y }) (ed ∙ ap bend_of eb)
-      ∙ sym (ap (λ (k : MaybeNote). tune_of k c fs bs) e)
+      ∙ sym (ap (λ (k : Option NoteState). tune_of k c fs bs) e)
 
 module _ (x : Sounds) (t : Tune) (on : Bool) (amp : List Float) (ps : Players) (n : ℕ) where
   pub part-is : (ls rs : List Float) → ls ≡ replicate n f0 → rs ≡ replicate n f0 → (m : Mixture) → m ≡ played_all x (tuned_all t ps) ls rs

@@ -1,4 +1,5 @@
 -- From event to event, and the outputs' loops. Assumes nothing.
+use Rattle.std.specs.Prelude.{cond}
 use Prim.Native.Nat.{ℕ, zero, suc, ◌+◌, ◌-◌, ◌<◌, ◌≤◌, ◌^◌}
 use mathlib.Core.Path.{◌≡◌, refl, sym, ap, ◌∙◌}
 use mathlib.Core.Bool.{Bool, true, false}
@@ -10,8 +11,7 @@ use lib.ListN.{length, take, drop, get_or, set, replicate, drop_of_length-le}
 use lib.Seq.{take_all}
 use lib.Ieee.{Float}
 use Rattle.exact.specs.Single.{◌⊗◌, f0}
-use Rattle.program.specs.Bind.{indexes}
-use Rattle.session.specs.Lists.{pick}
+use Rattle.std.specs.List.{range_with_len}
 use Rattle.session.proofs.Walks.{on_first}
 use Rattle.note.specs.declared.Strike.{Strike}
 use Rattle.block.specs.declared.Playing.{Playing}
@@ -37,11 +37,11 @@ turn-scene c i sc y e x ex g eg r er =
 
 pub still : (c : Cues) (sc : Scene) (k : ℕ) → event_on c sc k ≡ false → frame_turn c sc k ≡ sc
 unfolding frame_turn
-still c sc k e = ap (λ t. pick t (event_turn c k sc) sc) e
+still c sc k e = ap (λ t. cond t (event_turn c k sc) sc) e
 
 acts : (c : Cues) (sc : Scene) (k : ℕ) → event_on c sc k ≡ true → frame_turn c sc k ≡ event_turn c k sc
 unfolding frame_turn
-acts c sc k e = ap (λ t. pick t (event_turn c k sc) sc) e
+acts c sc k e = ap (λ t. cond t (event_turn c k sc) sc) e
 
 -- ---- the loop
 
@@ -51,7 +51,7 @@ upcoming c sc from = next_event c.time sc.playing.offs sc.playing.voice.gate_pre
 
 -- the frames from i on
 abbrev turned_from : Cues → Scene → ℕ → Scene
-turned_from c sc i = foldl (frame_turn c) sc (indexes i (c.time.frames - i))
+turned_from c sc i = foldl (frame_turn c) sc (range_with_len i (c.time.frames - i))
 
 -- where the loop stands: the frames before the event at ev have been turned, and none behind it has sounded
 pub record Reached (c : Cues) (first sc : Scene) (ev : ℕ) : Type 0 where
@@ -94,11 +94,11 @@ reach-first c sc ev at ok none l r =
       behind = omega arith;
       within = not-past c sc 0 ev at z;
       there = is-event c sc 0 ev at z;
-      rest = ap (rendered_to (sounds_of c) c.time.frames) (ap (λ k. foldl (frame_turn c) sc (indexes 0 k)) n ∙ skipped c sc 0 ev at z);
+      rest = ap (rendered_to (sounds_of c) c.time.frames) (ap (λ k. foldl (frame_turn c) sc (range_with_len 0 k)) n ∙ skipped c sc 0 ev at z);
     }
 
 none_left : (c : Cues) (sc : Scene) (ev : ℕ) → c.time.frames ≤ ev → turned_from c sc ev ≡ sc
-none_left c sc ev h = let n : c.time.frames - ev ≡ zero = omega arith in ap (λ k. foldl (frame_turn c) sc (indexes ev k)) n
+none_left c sc ev h = let n : c.time.frames - ev ≡ zero = omega arith in ap (λ k. foldl (frame_turn c) sc (range_with_len ev k)) n
 
 module _ (c : Cues) (first sc : Scene) (ev : ℕ) (so_far : Reached c first sc ev) where
   -- all frames have sounded
@@ -142,8 +142,8 @@ module _ (c : Cues) (first sc : Scene) (ev : ℕ) (so_far : Reached c first sc e
           rest =
               so_far.rest
               ∙ ap (rendered_to (sounds_of c) c.time.frames)
-              (ap (λ k. foldl (frame_turn c) sc (indexes ev k)) n
-              ∙ ap (λ (s : Scene). foldl (frame_turn c) s (indexes (ev + 1) (c.time.frames - (ev + 1)))) (acts c sc ev (so_far.there h) ∙ sym e)
+              (ap (λ k. foldl (frame_turn c) sc (range_with_len ev k)) n
+              ∙ ap (λ (s : Scene). foldl (frame_turn c) s (range_with_len (ev + 1) (c.time.frames - (ev + 1)))) (acts c sc ev (so_far.there h) ∙ sym e)
               ∙ skipped c y (ev + 1) next at z);
         }
 

@@ -1,4 +1,7 @@
 -- What every turn of a block, and a whole block, leaves as it is: the live voices, and the voice's id, rate and program. Assumes nothing.
+use Rattle.std.specs.List.{list_any, range_with_len}
+use Rattle.std.proofs.Common.{None, Option, Some, cond}
+use Rattle.note.specs.declared.NoteState.{NoteState}
 use Prim.Native.Nat.{ℕ, zero, suc, ◌+◌}
 use mathlib.Core.Path.{◌≡◌, refl, ◌∙◌}
 use mathlib.Core.Bool.{Bool, true, false}
@@ -6,8 +9,6 @@ use mathlib.Core.List.{List, [], ◌∷◌, foldl}
 use lib.ListN.{get_or}
 use lib.Dec.{ltb, eqb}
 use lib.Ieee.{Float}
-use Rattle.program.specs.Bind.{indexes}
-use Rattle.session.specs.Lists.{pick, any}
 use Rattle.session.specs.Offs.{no_off, first_at, collected_offs}
 use Rattle.session.specs.Rules.{mark_ended}
 use Rattle.session.specs.State.{view, relist, slot_list}
@@ -15,8 +16,6 @@ use Rattle.session.specs.declared.Session.{Session}
 use Rattle.session.specs.declared.Slots.{Slots}
 use Rattle.players.specs.Mix.{Sounds}
 use Rattle.players.specs.declared.Mixed.{Mixed}
-use Rattle.note.specs.declared.MaybeNote.{MaybeNote}
-use Rattle.note.specs.declared.MaybeNote.TheVariants.{Absent, Present}
 use Rattle.note.specs.declared.Strike.{Strike}
 use Rattle.events.specs.Voice.{Kit, with_players}
 use Rattle.gates.specs.Off.{reaped_both, applied_off}
@@ -75,9 +74,9 @@ module _ (k : Kit) (t : BlockTime) (i : ℕ) where
   turns-last : (m : ℕ) (p : Playing) → Lasts (both_of p) (both_of (off_turns k t i m p))
   unfolding off_turns
   turns-last zero p = lasts-same (both_of p)
-  turns-last (suc m) p = by-case (any (falls_on t i) (off_list p.offs)) (lasts-then (turn-lasts p) (turns-last m (off_turn k t i p))) where
+  turns-last (suc m) p = by-case (list_any (falls_on t i) (off_list p.offs)) (lasts-then (turn-lasts p) (turns-last m (off_turn k t i p))) where
     by-case : (b : Bool) → Lasts (both_of p) (both_of (off_turns k t i m (off_turn k t i p)))
-        → Lasts (both_of p) (both_of (pick b (off_turns k t i m (off_turn k t i p)) p))
+        → Lasts (both_of p) (both_of (cond b (off_turns k t i m (off_turn k t i p)) p))
     by-case true x = x
     by-case false x = lasts-same (both_of p)
 
@@ -94,7 +93,7 @@ module _ (k : Kit) (x : Strike) where
   gate-lasts : (g : Bool) (p : Playing) → Lasts (both_of p) (both_of (gate_turn k x g p))
   unfolding gate_turn
   gate-lasts g p = by-case (turns p.voice.gate_prev g) where
-    by-case : (b : Bool) → Lasts (both_of p) (both_of (pick b (with_both (edge_turned k x g (both_of p)) p) p))
+    by-case : (b : Bool) → Lasts (both_of p) (both_of (cond b (with_both (edge_turned k x g (both_of p)) p) p))
     by-case true = edge-lasts g (both_of p)
     by-case false = lasts-same (both_of p)
 
@@ -106,7 +105,7 @@ module _ (k : Kit) (x : Strike) where
 
 ended-voices : (id : ℕ) (ks : Slots) (s : Session) → (with_ended id ks s).voices ≡ s.voices
 ended-voices id ks s = by-case (eqb ks.count 0) where
-  by-case : (t : Bool) → (pick t s (relist (mark_ended id (slot_list ks) (view s)) s)).voices ≡ s.voices
+  by-case : (t : Bool) → (cond t s (relist (mark_ended id (slot_list ks) (view s)) s)).voices ≡ s.voices
   by-case true = refl
   by-case false = refl
 
@@ -119,7 +118,7 @@ part-lasts b p m =
 pub rendered-lasts : (x : Sounds) (b : ℕ) (sc : Scene) → Lasts (both_of sc.playing) (both_of (rendered_to x b sc).playing)
 unfolding rendered_to
 rendered-lasts x b sc = by-case (ltb sc.playing.from b) where
-  by-case : (t : Bool) → Lasts (both_of sc.playing) (both_of (pick t (scene_after sc.playing.from b sc (mixture_of x sc.playing.from b sc)) sc).playing)
+  by-case : (t : Bool) → Lasts (both_of sc.playing) (both_of (cond t (scene_after sc.playing.from b sc (mixture_of x sc.playing.from b sc)) sc).playing)
   by-case true = part-lasts b sc.playing (mixture_of x sc.playing.from b sc).mixed
   by-case false = lasts-same (both_of sc.playing)
 
@@ -133,7 +132,7 @@ module _ (c : Cues) where
   frame-lasts : (sc : Scene) (i : ℕ) → Lasts (both_of sc.playing) (both_of (frame_turn c sc i).playing)
   unfolding frame_turn
   frame-lasts sc i = by-case (event_on c sc i) where
-    by-case : (t : Bool) → Lasts (both_of sc.playing) (both_of (pick t (event_turn c i sc) sc).playing)
+    by-case : (t : Bool) → Lasts (both_of sc.playing) (both_of (cond t (event_turn c i sc) sc).playing)
     by-case true = event-lasts i sc
     by-case false = lasts-same (both_of sc.playing)
 
@@ -144,8 +143,8 @@ module _ (c : Cues) where
   sounded-lasts : (sc : Scene) → Lasts (both_of sc.playing) (both_of (sounded_from c sc).playing)
   unfolding sounded_from frames_turned
   sounded-lasts sc =
-      lasts-then (all-last (indexes 0 c.time.frames) sc)
-      (rendered-lasts (sounds_of c) c.time.frames (foldl (frame_turn c) sc (indexes 0 c.time.frames)))
+      lasts-then (all-last (range_with_len 0 c.time.frames) sc)
+      (rendered-lasts (sounds_of c) c.time.frames (foldl (frame_turn c) sc (range_with_len 0 c.time.frames)))
 
 -- ---- a block
 
@@ -153,9 +152,9 @@ pub start-lasts : (c : Connected) (fs bs : List Float) (s : Session) (v : Sample
     → Lasts (record { session = s; voice = v }) (both_of (started_block c fs bs s v))
 unfolding started_block collected_offs retuned_voice
 start-lasts c fs bs s v = by-case v.note where
-  by-case : (m : MaybeNote) → Lasts (record { session = s; voice = v }) (record { session = (collected_offs v.voice s).session; voice = retuned_for c fs bs m v })
-  by-case Absent = record { voices = refl; id = refl; rate = refl; program = refl }
-  by-case (Present n) = record { voices = refl; id = refl; rate = refl; program = refl }
+  by-case : (m : Option NoteState) → Lasts (record { session = s; voice = v }) (record { session = (collected_offs v.voice s).session; voice = retuned_for c fs bs m v })
+  by-case None = record { voices = refl; id = refl; rate = refl; program = refl }
+  by-case (Some n) = record { voices = refl; id = refl; rate = refl; program = refl }
 
 pub block-lasts : (l : Lent) (s : Session) (v : SampleVoice) → Lasts (record { session = s; voice = v }) (played_block l s v).both
 unfolding played_block block_start

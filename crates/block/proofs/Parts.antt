@@ -1,4 +1,6 @@
 -- A part of a block: the frames up to an event, then its off marks and an edge of the gate, each only where it happens. Assumes nothing.
+use Rattle.std.specs.List.{list_any}
+use Rattle.std.specs.Prelude.{cond}
 use Prim.Native.Nat.{ℕ, zero, suc, ◌+◌, ◌-◌, ◌<◌, ◌≤◌}
 use mathlib.Core.Path.{◌≡◌, refl, sym, ap, ◌∙◌}
 use mathlib.Core.Bool.{Bool, true, false, not, ◌||◌, true≢false}
@@ -8,7 +10,6 @@ use lib.ListN.{length, take, drop, length-append, length-take, length-drop}
 use lib.Dec.{eqb}
 use lib.Ieee.{Float}
 use borrow.Author.Tests.{eqb-true}
-use Rattle.session.specs.Lists.{pick, any}
 use Rattle.session.specs.Offs.{first_at}
 use Rattle.session.specs.declared.Offs.{Offs}
 use Rattle.session.specs.declared.Session.{Session}
@@ -76,7 +77,7 @@ module _ (c : Cues) (sc : Scene) (ev : ℕ) (ok : PlayingOk c.words sc.playing) 
     unfolding tuned_all
     as-tuned =
         told
-        ∙ ap (λ (t : Bool). played_all (sounds_of c) (pick t (retuned_all x.note_f x.bend sc.playing.voice.players) sc.playing.voice.players) (part sc.playing.from ev sc.left) (part sc.playing.from ev sc.right)) off
+        ∙ ap (λ (t : Bool). played_all (sounds_of c) (cond t (retuned_all x.note_f x.bend sc.playing.voice.players) sc.playing.voice.players) (part sc.playing.from ev sc.left) (part sc.playing.from ev sc.right)) off
 
     -- the voice with what its players became
     abbrev played : SampleVoice
@@ -107,7 +108,7 @@ module _ (c : Cues) (sc : Scene) (ev : ℕ) (ok : PlayingOk c.words sc.playing) 
     }
 
     -- nothing ended and nobody is done: there is nothing to settle
-    pub heard-calm : (over b : Bool) → over ≡ any is_over (sounding m.mixed.players) → b ≡ over || not (eqb m.mixed.ended.count 0) → b ≡ false
+    pub heard-calm : (over b : Bool) → over ≡ list_any is_over (sounding m.mixed.players) → b ≡ over || not (eqb m.mixed.ended.count 0) → b ≡ false
         → PlayersOk m.mixed.players → Heard c sc ev (sounded (record { session = sc.playing.session; voice = played }))
     heard-calm over b e f none h =
         let quiet : over || not (eqb m.mixed.ended.count 0) ≡ false = sym f ∙ none in
@@ -126,8 +127,8 @@ module _ (k : Kit) (t : BlockTime) (i : ℕ) where
   turns-from : (m : ℕ) (p : Playing) → (off_turns k t i m p).from ≡ p.from
   unfolding off_turns off_turn
   turns-from zero p = refl
-  turns-from (suc m) p = by-case (any (falls_on t i) (off_list p.offs)) (turns-from m (off_turn k t i p)) where
-    by-case : (b : Bool) → (off_turns k t i m (off_turn k t i p)).from ≡ p.from → (pick b (off_turns k t i m (off_turn k t i p)) p).from ≡ p.from
+  turns-from (suc m) p = by-case (list_any (falls_on t i) (off_list p.offs)) (turns-from m (off_turn k t i p)) where
+    by-case : (b : Bool) → (off_turns k t i m (off_turn k t i p)).from ≡ p.from → (cond b (off_turns k t i m (off_turn k t i p)) p).from ≡ p.from
     by-case true h = h
     by-case false h = refl
 

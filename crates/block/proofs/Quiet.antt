@@ -1,5 +1,7 @@
 -- A block in which nothing happens: no player, no record of the voice, no turn of the gate. Session and voice stay as they were, and
 -- both outputs are silence. Assumes nothing.
+use Rattle.std.specs.List.{list_any}
+use Rattle.std.specs.Prelude.{cond, ◌||◌, is_some}
 use Prim.Native.Nat.{ℕ, ◌-◌, ◌≤◌}
 use mathlib.Core.Path.{◌≡◌, refl, sym, ap, ◌∙◌}
 use mathlib.Core.Bool.{Bool, true, false, ◌&&◌, true≢false}
@@ -8,8 +10,7 @@ use lib.ListN.{length, take, drop, replicate, take-append-drop}
 use lib.Dec.{ltb, eqb}
 use lib.Ieee.{Float}
 use Rattle.exact.specs.Single.{f0}
-use Rattle.session.specs.Lists.{pick, any}
-use Rattle.session.specs.Records.{of_voice, waits, is_set}
+use Rattle.session.specs.Records.{of_voice, waits}
 use Rattle.session.specs.State.{view}
 use Rattle.session.specs.declared.PlayerRecord.{PlayerRecord}
 use Rattle.session.specs.declared.Session.{Session}
@@ -28,13 +29,13 @@ use Rattle.block.proofs.Calming.{standing, eventless}
 
 -- ---- the session
 
-none-own : (id : ℕ) (rs : List PlayerRecord) → any (of_voice id) rs ≡ false → any (waits id) rs ≡ false
+none-own : (id : ℕ) (rs : List PlayerRecord) → list_any (of_voice id) rs ≡ false → list_any (waits id) rs ≡ false
 unfolding waits
 none-own id [] e = refl
 none-own id (r ∷ rs) e = by-case (eqb r.voice id) e (none-own id rs)
   where
-    by-case : (t : Bool) → pick t true (any (of_voice id) rs) ≡ false → (any (of_voice id) rs ≡ false → any (waits id) rs ≡ false)
-        → pick (t && is_set r.off_at) true (any (waits id) rs) ≡ false
+    by-case : (t : Bool) → t || list_any (of_voice id) rs ≡ false → (list_any (of_voice id) rs ≡ false → list_any (waits id) rs ≡ false)
+        → (t && is_some r.off_at) || list_any (waits id) rs ≡ false
     by-case true e rest = absurd (true≢false e)
     by-case false e rest = rest e
 
@@ -51,7 +52,7 @@ none-tuned : (x : Tune) (v : SampleVoice) → with_players (tuned_all x (emptied
 unfolding tuned_all retuned_all
 none-tuned x v = by-case x.on
   where
-    by-case : (t : Bool) → with_players (pick t (retuned_all x.note_f x.bend (emptied v).players) (emptied v).players) (emptied v) ≡ emptied v
+    by-case : (t : Bool) → with_players (cond t (retuned_all x.note_f x.bend (emptied v).players) (emptied v).players) (emptied v) ≡ emptied v
     by-case true = refl
     by-case false = refl
 
@@ -69,7 +70,7 @@ module _ (l : Lent) (s : Session) (v : SampleVoice) where
   unfolding rendered_to after_part played_all played_band reaped_both
   none-rendered x n = by-case (ltb 0 n)
     where
-      by-case : (t : Bool) → played_of l (pick t (scene_after 0 n quiet (mixture_of x 0 n quiet)) quiet) ≡ played_of l quiet
+      by-case : (t : Bool) → played_of l (cond t (scene_after 0 n quiet (mixture_of x 0 n quiet)) quiet) ≡ played_of l quiet
       by-case true =
           let zs : List Float = quiet.left in
           ap (λ z. record { both = record { session = s; voice = emptied v }; left = amplified l.connected.amp l.amp z; right = amplified l.connected.amp l.amp (take 0 zs ++ (take (n - 0) (drop 0 zs) ++ drop (n - 0) (drop 0 zs))) }) (part-back n zs)
@@ -86,7 +87,7 @@ quiet_block l s v = record {
   right = amplified l.connected.amp l.amp (replicate l.time.frames f0);
 }
 
-quiet-emptied : (l : Lent) (s : Session) (v : SampleVoice) → length s.players ≡ 512 → s.count ≤ 512 → any (of_voice v.voice) (view s) ≡ false
+quiet-emptied : (l : Lent) (s : Session) (v : SampleVoice) → length s.players ≡ 512 → s.count ≤ 512 → list_any (of_voice v.voice) (view s) ≡ false
     → next_gate v.gate_prev l.connected.gate l.gate 0 l.time.frames ≡ l.time.frames → played_block l s (emptied v) ≡ quiet_block l s (emptied v)
 quiet-emptied l s v size few own stays =
     eventless l s (emptied v) size few (none-own v.voice (view s) own) stays
@@ -94,7 +95,7 @@ quiet-emptied l s v size few own stays =
     ∙ none-rendered l s v (sounds_of (cues_of l)) l.time.frames
 
 pub quiet_is : (l : Lent) (s : Session) (v : SampleVoice) → length s.players ≡ 512 → s.count ≤ 512 → v.players.count ≡ 0
-    → any (of_voice v.voice) (view s) ≡ false
+    → list_any (of_voice v.voice) (view s) ≡ false
     → next_gate v.gate_prev l.connected.gate l.gate 0 l.time.frames ≡ l.time.frames → quiet_block l s v ≡ played_block l s v
 quiet_is l s v size few silent own still =
     let e = is-emptied v silent in

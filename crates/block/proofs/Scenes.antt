@@ -1,4 +1,6 @@
 -- Turns of a block under way. Assumes nothing.
+use Rattle.std.specs.List.{list_any}
+use Rattle.std.specs.Prelude.{cond, ◌||◌}
 use Prim.Native.Nat.{ℕ, zero, suc, ◌+◌, ◌-◌, ◌<◌, ◌≤◌}
 use mathlib.Core.Path.{◌≡◌, refl, sym, ap, ◌∙◌}
 use mathlib.Core.Bool.{Bool, true, false}
@@ -8,7 +10,6 @@ use lib.ListN.{length, take, get_or, length-set}
 use lib.Seq.{length-take-le}
 use lib.Dec.{ltb}
 use borrow.Author.Tests.{le-ltb, lt-ltb}
-use Rattle.session.specs.Lists.{pick, any}
 use Rattle.session.specs.Offs.{first_at, no_off}
 use Rattle.session.specs.declared.Off.{Off}
 use Rattle.session.specs.declared.Offs.{Offs}
@@ -30,17 +31,17 @@ use Rattle.block.proofs.Lasting.{off-lasts, rise-lasts, fall-lasts, rendered-las
 -- ---- off times
 
 module _ {A : Type 0} (p : A → Bool) where
-  some-there : (xs : List A) → first_at p xs < length xs → any p xs ≡ true
+  some-there : (xs : List A) → first_at p xs < length xs → list_any p xs ≡ true
   some-there [] h = absurd (omega (arith, h))
   some-there (x ∷ xs) h = by-case (p x) h (some-there xs) where
-    by-case : (t : Bool) → pick t zero (suc (first_at p xs)) < suc (length xs) → (first_at p xs < length xs → any p xs ≡ true) → pick t true (any p xs) ≡ true
+    by-case : (t : Bool) → cond t zero (suc (first_at p xs)) < suc (length xs) → (first_at p xs < length xs → list_any p xs ≡ true) → t || list_any p xs ≡ true
     by-case true k rest = refl
     by-case false k rest = rest (omega (arith, k))
 
-  none-there : (xs : List A) → length xs ≤ first_at p xs → any p xs ≡ false
+  none-there : (xs : List A) → length xs ≤ first_at p xs → list_any p xs ≡ false
   none-there [] h = refl
   none-there (x ∷ xs) h = by-case (p x) h (none-there xs) where
-    by-case : (t : Bool) → suc (length xs) ≤ pick t zero (suc (first_at p xs)) → (length xs ≤ first_at p xs → any p xs ≡ false) → pick t true (any p xs) ≡ false
+    by-case : (t : Bool) → suc (length xs) ≤ cond t zero (suc (first_at p xs)) → (length xs ≤ first_at p xs → list_any p xs ≡ false) → t || list_any p xs ≡ false
     by-case true k rest = absurd (omega (arith, k))
     by-case false k rest = rest (omega (arith, k))
 
@@ -87,19 +88,19 @@ module _ (k : Kit) (t : BlockTime) (i j n : ℕ) (p : Playing) (ok : OffsOk p.of
   unfolding off_turns
   turns_more h =
       let l : length (off_list p.offs) ≡ p.offs.count = list_length p.offs ok in
-      let e : any (falls_on t i) (off_list p.offs) ≡ true = some-there (falls_on t i) (off_list p.offs) (omega arith) in
+      let e : list_any (falls_on t i) (off_list p.offs) ≡ true = some-there (falls_on t i) (off_list p.offs) (omega arith) in
       let m : n ≡ suc (n - 1) = omega arith in
-      ap (λ x. off_turns k t i x p) m ∙ ap (λ b. pick b (off_turns k t i (n - 1) (off_turn k t i p)) p) e
+      ap (λ x. off_turns k t i x p) m ∙ ap (λ b. cond b (off_turns k t i (n - 1) (off_turn k t i p)) p) e
 
   pub turns-over : n ≤ j → off_turns k t i n p ≡ p
   unfolding off_turns
   turns-over h =
       let l : length (off_list p.offs) ≡ p.offs.count = list_length p.offs ok in
-      let e : any (falls_on t i) (off_list p.offs) ≡ false = none-there (falls_on t i) (off_list p.offs) (omega arith) in
+      let e : list_any (falls_on t i) (off_list p.offs) ≡ false = none-there (falls_on t i) (off_list p.offs) (omega arith) in
       by-case n e where
-        by-case : (m : ℕ) → any (falls_on t i) (off_list p.offs) ≡ false → off_turns k t i m p ≡ p
+        by-case : (m : ℕ) → list_any (falls_on t i) (off_list p.offs) ≡ false → off_turns k t i m p ≡ p
         by-case zero e = refl
-        by-case (suc m) e = ap (λ b. pick b (off_turns k t i m (off_turn k t i p)) p) e
+        by-case (suc m) e = ap (λ b. cond b (off_turns k t i m (off_turn k t i p)) p) e
 
 -- ---- an edge of the gate
 
@@ -108,7 +109,7 @@ module _ (k : Kit) (x : Strike) (b r : Both) (ok : VoiceOk k.words b.voice) (h :
       → (r ≡ edge_turned k x g b) × VoiceOk k.words r.voice
   unfolding edge_turned
   edge-up g e d = (
-    d ∙ sym (ap (λ (t : Bool). pick t (noted_on k b.voice.program.regions x (record { session = b.session; voice = with_gate g b.voice })) (noted_off k b.voice.program.regions x.at (record { session = b.session; voice = with_gate g b.voice }))) e),
+    d ∙ sym (ap (λ (t : Bool). cond t (noted_on k b.voice.program.regions x (record { session = b.session; voice = with_gate g b.voice })) (noted_off k b.voice.program.regions x.at (record { session = b.session; voice = with_gate g b.voice }))) e),
     record { players = h; bindable = ok.bindable; regions = rw (ap (λ (y : Both). y.voice.program) d ∙ (rise-lasts k b.voice.program.regions x (record { session = b.session; voice = with_gate g b.voice })).program) ok.regions },
   )
 
@@ -116,18 +117,18 @@ module _ (k : Kit) (x : Strike) (b r : Both) (ok : VoiceOk k.words b.voice) (h :
       → (r ≡ edge_turned k x g b) × VoiceOk k.words r.voice
   unfolding edge_turned
   edge-down g e d = (
-    d ∙ sym (ap (λ (t : Bool). pick t (noted_on k b.voice.program.regions x (record { session = b.session; voice = with_gate g b.voice })) (noted_off k b.voice.program.regions x.at (record { session = b.session; voice = with_gate g b.voice }))) e),
+    d ∙ sym (ap (λ (t : Bool). cond t (noted_on k b.voice.program.regions x (record { session = b.session; voice = with_gate g b.voice })) (noted_off k b.voice.program.regions x.at (record { session = b.session; voice = with_gate g b.voice }))) e),
     record { players = h; bindable = ok.bindable; regions = rw (ap (λ (y : Both). y.voice.program) d ∙ (fall-lasts k b.voice.program.regions x.at (record { session = b.session; voice = with_gate g b.voice })).program) ok.regions },
   )
 
 module _ (k : Kit) (x : Strike) (g : Bool) (p : Playing) (b : Bool) (told : b ≡ turns p.voice.gate_prev g) where
   pub gate-still : b ≡ false → p ≡ gate_turn k x g p
   unfolding gate_turn
-  gate-still e = sym (ap (λ t. pick t (with_both (edge_turned k x g (both_of p)) p) p) (sym told ∙ e))
+  gate-still e = sym (ap (λ t. cond t (with_both (edge_turned k x g (both_of p)) p) p) (sym told ∙ e))
 
   pub gate-turned : b ≡ true → (r : Both) → r ≡ edge_turned k x g (both_of p) → with_both r p ≡ gate_turn k x g p
   unfolding gate_turn
-  gate-turned e r d = ap (λ (y : Both). with_both y p) d ∙ sym (ap (λ t. pick t (with_both (edge_turned k x g (both_of p)) p) p) (sym told ∙ e))
+  gate-turned e r d = ap (λ (y : Both). with_both y p) d ∙ sym (ap (λ t. cond t (with_both (edge_turned k x g (both_of p)) p) p) (sym told ∙ e))
 
 -- ---- frames between two events
 
@@ -135,7 +136,7 @@ module _ (x : Sounds) (b : ℕ) (sc : Scene) where
   pub no_frames : b ≤ sc.playing.from → sc ≡ rendered_to x b sc
   unfolding rendered_to
   no_frames h =
-      sym (ap (λ t. pick t (scene_after sc.playing.from b sc (mixture_of x sc.playing.from b sc)) sc) (le-ltb sc.playing.from b h))
+      sym (ap (λ t. cond t (scene_after sc.playing.from b sc (mixture_of x sc.playing.from b sc)) sc) (le-ltb sc.playing.from b h))
 
   pub some-frames : sc.playing.from < b → (m : Mixture) → m ≡ mixture_of x sc.playing.from b sc → (q : Playing)
       → q ≡ after_part b sc.playing m.mixed
@@ -144,12 +145,12 @@ module _ (x : Sounds) (b : ℕ) (sc : Scene) where
   some-frames h m e q d =
       ap (λ (r : Playing). record { playing = r; left = put_at sc.playing.from b sc.left m.left; right = put_at sc.playing.from b sc.right m.right }) d
       ∙ ap (scene_after sc.playing.from b sc) e
-      ∙ sym (ap (λ t. pick t (scene_after sc.playing.from b sc (mixture_of x sc.playing.from b sc)) sc) (lt-ltb sc.playing.from b h))
+      ∙ sym (ap (λ t. cond t (scene_after sc.playing.from b sc (mixture_of x sc.playing.from b sc)) sc) (lt-ltb sc.playing.from b h))
 
   rendered-offs : (rendered_to x b sc).playing.offs ≡ sc.playing.offs
   unfolding rendered_to after_part
   rendered-offs = by-case (ltb sc.playing.from b) where
-    by-case : (t : Bool) → (pick t (scene_after sc.playing.from b sc (mixture_of x sc.playing.from b sc)) sc).playing.offs ≡ sc.playing.offs
+    by-case : (t : Bool) → (cond t (scene_after sc.playing.from b sc (mixture_of x sc.playing.from b sc)) sc).playing.offs ≡ sc.playing.offs
     by-case true = refl
     by-case false = refl
 

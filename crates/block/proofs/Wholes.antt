@@ -1,4 +1,5 @@
 -- A block's start, and the whole of it. Assumes nothing.
+use Rattle.std.proofs.Common.{None, Option, Some}
 use Prim.Native.Nat.{ℕ, ◌≤◌}
 use mathlib.Core.Path.{◌≡◌, sym, ap, ◌∙◌}
 use mathlib.Core.Bool.{Bool}
@@ -15,8 +16,6 @@ use Rattle.session.specs.declared.Collected.{Collected}
 use Rattle.session.specs.declared.Off.{Off}
 use Rattle.session.specs.declared.Session.{Session}
 use Rattle.note.specs.Note.{note_of}
-use Rattle.note.specs.declared.MaybeNote.{MaybeNote}
-use Rattle.note.specs.declared.MaybeNote.TheVariants.{Absent, Present}
 use Rattle.note.specs.declared.NoteState.{NoteState}
 use Rattle.players.specs.Seats.{PlayersOk, retuned_all}
 use Rattle.players.specs.declared.Players.{Players}
@@ -36,11 +35,11 @@ pub players-of : (w v : SampleVoice) (ps : Players) → w ≡ with_players ps v 
 players-of w v ps e h = rw e h
 
 module _ (c : Connected) (fs bs : List Float) (v : SampleVoice) where
-  pub no_note : v.note ≡ Absent → v ≡ retuned_voice c fs bs v
+  pub no_note : v.note ≡ None → v ≡ retuned_voice c fs bs v
   unfolding retuned_voice
-  no_note e = sym (ap (λ (m : MaybeNote). retuned_for c fs bs m v) e)
+  no_note e = sym (ap (λ (m : Option NoteState). retuned_for c fs bs m v) e)
 
-  pub some-note : (n : NoteState) → v.note ≡ Present n → (f : Float) → f ≡ input_at c.freq fs 0 f0 → (b : Float) → b ≡ input_at c.bend bs 0 f0
+  pub some-note : (n : NoteState) → v.note ≡ Some n → (f : Float) → f ≡ input_at c.freq fs 0 f0 → (b : Float) → b ≡ input_at c.bend bs 0 f0
       → (d : Float) → d ≡ bend_of b → (x : Float) → x ≡ note_of f n.note_f → (ps : Players) → ps ≡ retuned_all x d v.players
       → (w : SampleVoice) → w ≡ with_players ps v → w ≡ retuned_voice c fs bs v
   unfolding retuned_voice
@@ -49,7 +48,7 @@ module _ (c : Connected) (fs bs : List Float) (v : SampleVoice) where
       ∙ ap (λ (p : Players). with_players p v)
       (eps ∙ ap (λ y. retuned_all y d v.players) (ex ∙ ap (λ g. note_of g n.note_f) ef)
       ∙ ap (λ y. retuned_all (note_of (input_at c.freq fs 0 f0) n.note_f) y v.players) (ed ∙ ap bend_of eb))
-      ∙ sym (ap (λ (m : MaybeNote). retuned_for c fs bs m v) e)
+      ∙ sym (ap (λ (m : Option NoteState). retuned_for c fs bs m v) e)
 
   module _ (s : Session) where
     pub start_is : (o : Collected) → o ≡ collected_offs v.voice s → (w : SampleVoice) → w ≡ retuned_voice c fs bs v

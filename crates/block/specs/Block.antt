@@ -1,17 +1,17 @@
 -- A block: off times are collected, pitch is set, then events by frame, off marks before a gate edge on the same frame, and the frames
 -- between them; the amp input multiplies last. Definitions only.
-use Rattle.std.specs.Prelude.{ℕ, zero, suc, ◌+◌, ◌-◌, Bool, true, false, not, ◌||◌, take, get_or, set, replicate, eqb, Float}
+use Rattle.std.specs.List.{list_any}
+use Rattle.note.specs.declared.NoteState.{NoteState}
+use Rattle.std.specs.Prelude.{ℕ, zero, suc, ◌+◌, ◌-◌, Bool, true, false, not, ◌||◌, take, get_or, set, replicate, eqb, Float, None, Option, Some, cond}
 use mathlib.Core.List.{List, [], ◌∷◌, foldl}
 use Rattle.exact.specs.Single.{◌⊗◌, f0}
-use Rattle.session.specs.Lists.{pick, any, used_of}
+use Rattle.session.specs.Lists.{used_of}
 use Rattle.session.specs.Offs.{collected_offs, no_off, first_at}
 use Rattle.session.specs.declared.Off.{Off}
 use Rattle.session.specs.declared.Offs.{Offs}
 use Rattle.session.specs.declared.Session.{Session}
-use Rattle.program.specs.Bind.{indexes}
+use Rattle.std.specs.List.{range_with_len}
 use Rattle.note.specs.Note.{note_of}
-use Rattle.note.specs.declared.MaybeNote.{MaybeNote}
-use Rattle.note.specs.declared.MaybeNote.TheVariants.{Absent, Present}
 use Rattle.note.specs.declared.Strike.{Strike}
 use Rattle.players.specs.Seats.{retuned_all}
 use Rattle.gates.specs.Gate.{noted_on, noted_off}
@@ -28,9 +28,9 @@ use Rattle.block.specs.Render.{Scene, both_of, with_both, rendered_to}
 -- ---- before the events
 
 -- the pitch of a sounding note: this block's first frequency and bend
-abbrev pub retuned_for : Connected → List Float → List Float → MaybeNote → SampleVoice → SampleVoice
-retuned_for c freq bend Absent v = v
-retuned_for c freq bend (Present n) v =
+abbrev pub retuned_for : Connected → List Float → List Float → Option NoteState → SampleVoice → SampleVoice
+retuned_for c freq bend None v = v
+retuned_for c freq bend (Some n) v =
     with_players (retuned_all (note_of (input_at c.freq freq 0 f0) n.note_f) (bend_of (input_at c.bend bend 0 f0)) v.players) v
 
 unfoldable pub retuned_voice : Connected → List Float → List Float → SampleVoice → SampleVoice
@@ -72,7 +72,7 @@ off_turn k t i p =
 -- again while there is one; each turn leaves one fewer
 unfoldable pub off_turns : Kit → BlockTime → ℕ → ℕ → Playing → Playing
 off_turns k t i zero p = p
-off_turns k t i (suc m) p = pick (any (falls_on t i) (off_list p.offs)) (off_turns k t i m (off_turn k t i p)) p
+off_turns k t i (suc m) p = cond (list_any (falls_on t i) (off_list p.offs)) (off_turns k t i m (off_turn k t i p)) p
 
 -- ---- a gate edge on a frame
 
@@ -103,10 +103,10 @@ unfoldable pub edge_turned : Kit → Strike → Bool → Both → Both
 edge_turned k x g b =
     let n = b.voice.program.regions in
     let c : Both = record { session = b.session; voice = with_gate g b.voice } in
-    pick g (noted_on k n x c) (noted_off k n x.at c)
+    cond g (noted_on k n x c) (noted_off k n x.at c)
 
 unfoldable pub gate_turn : Kit → Strike → Bool → Playing → Playing
-gate_turn k x g p = pick (turns p.voice.gate_prev g) (with_both (edge_turned k x g (both_of p)) p) p
+gate_turn k x g p = cond (turns p.voice.gate_prev g) (with_both (edge_turned k x g (both_of p)) p) p
 
 -- ---- events by frame
 
@@ -116,7 +116,7 @@ events_at k t i x g p = gate_turn k x g (off_turns k t i p.offs.count p)
 
 -- an off time falls on frame i, or the gate, which is g there, turns on it
 unfoldable pub has_event : BlockTime → Offs → Bool → Bool → ℕ → Bool
-has_event t q prev g i = any (falls_on t i) (off_list q) || turns prev g
+has_event t q prev g i = list_any (falls_on t i) (off_list q) || turns prev g
 
 abbrev pub turned_scene : Playing → Scene → Scene
 turned_scene p sc = record { playing = p; left = sc.left; right = sc.right }
@@ -132,10 +132,10 @@ event_turn c i sc =
 
 -- a frame without an event leaves the block as it stands
 unfoldable pub frame_turn : Cues → Scene → ℕ → Scene
-frame_turn c sc i = pick (event_on c sc i) (event_turn c i sc) sc
+frame_turn c sc i = cond (event_on c sc i) (event_turn c i sc) sc
 
 unfoldable pub frames_turned : Cues → Scene → Scene
-frames_turned c sc = foldl (frame_turn c) sc (indexes 0 c.time.frames)
+frames_turned c sc = foldl (frame_turn c) sc (range_with_len 0 c.time.frames)
 
 -- ---- the whole block
 
@@ -150,7 +150,7 @@ times_each (x ∷ xs) [] = x ∷ xs
 times_each (x ∷ xs) (y ∷ ys) = (x ⊗ y) ∷ times_each xs ys
 
 abbrev pub amplified : Bool → List Float → List Float → List Float
-amplified on amp xs = pick on (times_each xs amp) xs
+amplified on amp xs = cond on (times_each xs amp) xs
 
 -- the session, the voice and both outputs' frames that a block leaves
 pub record Played : Type 0 where

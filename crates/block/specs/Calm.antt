@@ -1,11 +1,10 @@
 -- A block without events: the players are tuned and sound to its end in one part, and then the session hears of those that ended.
 -- Definitions only.
-use Rattle.std.specs.Prelude.{ℕ, Bool, true, false, List, replicate, Float}
+use Rattle.note.specs.declared.NoteState.{NoteState}
+use Rattle.std.specs.Prelude.{ℕ, Bool, true, false, List, replicate, Float, None, Option, Some}
 use Rattle.exact.specs.Single.{f0}
 use Rattle.session.specs.declared.Slots.{Slots}
 use Rattle.note.specs.Note.{note_of}
-use Rattle.note.specs.declared.MaybeNote.{MaybeNote}
-use Rattle.note.specs.declared.MaybeNote.TheVariants.{Absent, Present}
 use Rattle.players.specs.Mix.{Sounds, Mixture, tuned_all, played_all}
 use Rattle.players.specs.declared.Players.{Players}
 use Rattle.players.specs.declared.mix.Tune.{Tune}
@@ -17,9 +16,9 @@ use Rattle.block.specs.Render.{with_ended}
 use Rattle.block.specs.Block.{amplified}
 
 -- the pitch of a sounding note: this block's first frequency and bend; without a note none is set
-unfoldable pub tune_of : MaybeNote → Connected → List Float → List Float → Tune
-tune_of Absent c freq bend = record { on = false; note_f = f0; bend = f0 }
-tune_of (Present n) c freq bend = record {
+unfoldable pub tune_of : Option NoteState → Connected → List Float → List Float → Tune
+tune_of None c freq bend = record { on = false; note_f = f0; bend = f0 }
+tune_of (Some n) c freq bend = record {
   on = true;
   note_f = note_of (input_at c.freq freq 0 f0) n.note_f;
   bend = bend_of (input_at c.bend bend 0 f0);

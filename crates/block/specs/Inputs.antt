@@ -5,7 +5,6 @@ use Rattle.std.specs.Float.Ieee.{lt, of_bits}
 use Rattle.std.specs.Float.Ieee.Scale.{finite}
 use Rattle.exact.specs.Order.{clamped}
 use Rattle.exact.specs.Single.{f0, f1}
-use Rattle.session.specs.Lists.{pick}
 use Rattle.players.specs.Mix.{Sounds}
 use Rattle.events.specs.Voice.{Kit}
 use Rattle.note.specs.declared.Strike.{Strike}
@@ -68,7 +67,7 @@ sounds_of c = record { samples = c.samples; frames = c.pcm; table = c.table }
 
 -- an input's frame i; unconnected, its default
 unfoldable pub input_at : Bool → List Float → ℕ → Float → Float
-input_at connected xs i default = pick connected (get_or xs i nan) default
+input_at connected xs i default = cond connected (get_or xs i nan) default
 
 -- a connected input has a frame i
 abbrev pub Reaches : Bool → List Float → ℕ → Type 0

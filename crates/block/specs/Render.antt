@@ -1,6 +1,5 @@
 -- Frames between two events. Definitions only.
-use Rattle.std.specs.Prelude.{ℕ, ◌-◌, List, ◌++◌, take, drop, ltb, eqb, Float}
-use Rattle.session.specs.Lists.{pick}
+use Rattle.std.specs.Prelude.{ℕ, ◌-◌, List, ◌++◌, take, drop, ltb, eqb, Float, cond}
 use Rattle.session.specs.Rules.{mark_ended}
 use Rattle.session.specs.State.{view, relist, slot_list}
 use Rattle.session.specs.declared.Session.{Session}
@@ -30,7 +29,7 @@ put_at a b xs ys = take a xs ++ (ys ++ drop (b - a) (drop a xs))
 
 -- the players' records in these slots carry the mark of ended data
 abbrev pub with_ended : ℕ → Slots → Session → Session
-with_ended id ks s = pick (eqb ks.count 0) s (relist (mark_ended id (slot_list ks) (view s)) s)
+with_ended id ks s = cond (eqb ks.count 0) s (relist (mark_ended id (slot_list ks) (view s)) s)
 
 -- every player has sounded up to b: ended data are marked, finished players leave
 unfoldable pub after_part : ℕ → Playing → Mixed → Playing
@@ -54,4 +53,4 @@ mixture_of x a b sc = played_all x sc.playing.voice.players (part a b sc.left) (
 
 -- the frames from where the block stands up to b; none of them, and nothing happens
 unfoldable pub rendered_to : Sounds → ℕ → Scene → Scene
-rendered_to x b sc = let a = sc.playing.from in pick (ltb a b) (scene_after a b sc (mixture_of x a b sc)) sc
+rendered_to x b sc = let a = sc.playing.from in cond (ltb a b) (scene_after a b sc (mixture_of x a b sc)) sc

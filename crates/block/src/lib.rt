@@ -18,7 +18,7 @@ use events::{Both, SampleVoice};
 use frames::{amplify_both, clear_both, play_frames};
 use gates::off::with_players;
 use inputs::{bend_of, input_at};
-use note::{MaybeNote, note_of};
+use note::note_of;
 use players::retune;
 use session::{Offs, Session, collect_offs};
 
@@ -57,8 +57,8 @@ fn retune_voice(v: SampleVoice, c: Connected, freq: &[f32], bend: &[f32]) -> Sam
 {
     let note = v.note;
     match note {
-        MaybeNote::Absent => v,
-        MaybeNote::Present(n) => {
+        None => v,
+        Some(n) => {
             let f = input_at(c.freq, freq, 0, 0.0);
             let b = bend_of(input_at(c.bend, bend, 0, 0.0));
             let note_f = note_of(f, n.note_f);

@@ -2,10 +2,8 @@
 #![tactic(auto)]
 
 use block_script::perform::perform;
-use lister::feed::fresh_feed;
+use lister::feed::Feed;
 
 fn main() {
-    let mut buf = io::large_buffer();
-    let feed = fresh_feed();
-    perform(&mut buf, feed);
+    perform(&mut Feed::new(false));
 }

@@ -3,17 +3,17 @@ ghost use Rattle.std.specs.Prelude.{◌≡◌, length};
 ghost use Rattle.voice.specs.Calls.{number_of};
 
 use block::{BlockTime, Connected};
-use block_parts::call::{ASK, BLOCK, CLOSE, Call, RESET, VOICE};
+use block_parts::call::Call;
 use events::SampleVoice;
+use lines::block::PlayLine;
 use program::bind::BoundProgram;
 use session::Session;
-use voice::{Answer, Called, block, close, is_finished, make, reset};
+use voice::{Answer, block, close, is_finished, make, reset};
 
-// 01's number of an answer, 0 where the call is done; whether the voice is finished; session and voice as they are left.
+// Whether the voice is finished, or 01's number of a refusal; session and voice as they are left.
 #[derive(Drop)]
 pub struct Did {
-    pub number: u64,
-    pub finished: bool,
+    pub outcome: Result<bool, u64>,
     pub session: Session,
     pub voice: SampleVoice,
 }
@@ -31,39 +31,36 @@ fn number_of(a: Answer) -> u64
     }
 }
 
-fn result(number: u64, finished: bool, s: Session, v: SampleVoice) -> Did {
+fn result(answer: Answer, finished: bool, session: Session, voice: SampleVoice) -> Did {
+    let outcome = match number_of(answer) {
+        0 => Ok(finished),
+        number => Err(number),
+    };
     Did {
-        number,
-        finished,
-        session: s,
-        voice: v,
+        outcome,
+        session,
+        voice,
     }
-}
-
-fn numbered(c: Called) -> Did {
-    let answer = c.answer;
-    let session = c.session;
-    let voice = c.voice;
-    result(number_of(answer), false, session, voice)
 }
 
 // A new voice takes the place of v, where it is made.
 fn make_call(s: Session, v: SampleVoice, rate: f32, program: BoundProgram) -> Did {
     let c = make(s, rate, program);
-    let answer = c.answer;
-    let number = number_of(answer);
-    if number != 0 {
-        return result(number, false, s, v);
+    let made = result(c.answer, false, c.session, c.voice);
+    if made.outcome.is_ok() {
+        return made;
     }
-    let session = c.session;
-    let voice = c.voice;
-    result(0, false, session, voice)
+    Did {
+        session: s,
+        voice: v,
+        ..made
+    }
 }
 
 fn block_call(
     s: Session,
     v: SampleVoice,
-    c: Call,
+    b: PlayLine,
     on: Connected,
     words: &[u32],
     samples: &[u32],
@@ -76,10 +73,10 @@ fn block_call(
     requires { length inputs.now ≡ 896 }
 {
     let t = BlockTime {
-        frames: c.frames as usize,
-        offset: c.offset,
+        frames: b.frames as usize,
+        offset: b.offset,
     };
-    numbered(block(
+    let c = block(
         s,
         v,
         t,
@@ -97,27 +94,8 @@ fn block_call(
         &inputs[768..896],
         left,
         right,
-    ))
-}
-
-fn ask_call(
-    s: Session,
-    v: SampleVoice,
-    words: &[u32],
-    samples: &[u32],
-    pcm: &[f32],
-    table: &[f32],
-) -> Did {
-    let a = is_finished(s, v, words, samples, pcm, table);
-    let answer = a.answer;
-    result(number_of(answer), a.finished, s, v)
-}
-
-fn close_call(s: Session, v: SampleVoice) -> Did {
-    let c = close(s, v);
-    let answer = c.answer;
-    let session = c.session;
-    result(number_of(answer), false, session, v)
+    );
+    result(c.answer, false, c.session, c.voice)
 }
 
 // The call of a line on the voice v.
@@ -137,23 +115,22 @@ pub fn do_call(
 ) -> Did
     requires { length inputs.now ≡ 896 }
 {
-    let kind = c.kind;
-    if kind == VOICE {
-        return make_call(s, v, c.rate, program);
+    match c {
+        Call::Voice { rate } => make_call(s, v, rate, program),
+        Call::Block(b) => block_call(s, v, b, on, words, samples, pcm, table, inputs, left, right),
+        Call::Ask(_) => {
+            let a = is_finished(s, v, words, samples, pcm, table);
+            result(a.answer, a.finished, s, v)
+        }
+        Call::Reset(_) => {
+            let c = reset(s, v);
+            result(c.answer, false, c.session, c.voice)
+        }
+        Call::Close(_) => {
+            let c = close(s, v);
+            result(c.answer, false, c.session, v)
+        }
     }
-    if kind == BLOCK {
-        return block_call(s, v, c, on, words, samples, pcm, table, inputs, left, right);
-    }
-    if kind == ASK {
-        return ask_call(s, v, words, samples, pcm, table);
-    }
-    if kind == RESET {
-        return numbered(reset(s, v));
-    }
-    if kind == CLOSE {
-        return close_call(s, v);
-    }
-    result(0, false, s, v)
 }
 
 // A voice that fills a place before its first use.

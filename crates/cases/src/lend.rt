@@ -1,5 +1,5 @@
 // The program that the cases play: region 0 is silence, region 1 goes round frames 2 to 5 of a sample of 8 frames.
-use program::bind::{Bound, BoundProgram, bind};
+use program::bind::{BindError, BoundProgram, bind};
 
 pub fn put(words: &mut [u32], at: usize, v: u32) {
     if at < words.len() {
@@ -75,13 +75,13 @@ fn nothing() -> BoundProgram {
     }
 }
 
-pub fn bound_of(b: Bound) -> BoundProgram {
+pub fn bound_of(b: Result<BoundProgram, BindError>) -> BoundProgram {
     match b {
-        Bound::Done(p) => p,
-        Bound::Counts => nothing(),
-        Bound::BadRegion(_) => nothing(),
-        Bound::BadSample(_) => nothing(),
-        Bound::BadTable => nothing(),
+        Ok(p) => p,
+        Err(BindError::Counts) => nothing(),
+        Err(BindError::BadRegion(_)) => nothing(),
+        Err(BindError::BadSample(_)) => nothing(),
+        Err(BindError::BadTable) => nothing(),
     }
 }
 

@@ -2,14 +2,14 @@
 use envelope::{EgState, Env};
 use events::SampleVoice;
 use exact::order::bits_f32;
-use filter::{FilterShape, FilterSlot};
+use filter::FilterShape;
 use interp::Interp;
-use note::{MaybeNote, NoteState};
-use player::{Cold, Hot, LoopRt, MaybeLoop, Player};
+use note::NoteState;
+use player::{Cold, Hot, LoopRt, Player};
 use players::Players;
 use program::bind::BoundProgram;
 use program::region::{LoopMode, OffMode};
-use session::{LiveVoices, OffAt, OffBy, PlayerRecord, Sequences, Session};
+use session::{LiveVoices, PlayerRecord, Sequences, Session};
 
 fn same_f32(a: f32, b: f32) -> bool {
     bits_f32(a) == bits_f32(b)
@@ -25,28 +25,28 @@ fn same_f64(a: f64, b: f64) -> bool {
 
 // ---- a session
 
-fn same_off_by(a: OffBy, b: OffBy) -> bool {
+fn same_off_by(a: Option<i32>, b: Option<i32>) -> bool {
     match a {
-        OffBy::Nobody => match b {
-            OffBy::Nobody => true,
-            OffBy::Group(_) => false,
+        None => match b {
+            None => true,
+            Some(_) => false,
         },
-        OffBy::Group(x) => match b {
-            OffBy::Nobody => false,
-            OffBy::Group(y) => x == y,
+        Some(x) => match b {
+            None => false,
+            Some(y) => x == y,
         },
     }
 }
 
-fn same_off_at(a: OffAt, b: OffAt) -> bool {
+fn same_off_at(a: Option<u64>, b: Option<u64>) -> bool {
     match a {
-        OffAt::Never => match b {
-            OffAt::Never => true,
-            OffAt::At(_) => false,
+        None => match b {
+            None => true,
+            Some(_) => false,
         },
-        OffAt::At(x) => match b {
-            OffAt::Never => false,
-            OffAt::At(y) => x == y,
+        Some(x) => match b {
+            None => false,
+            Some(y) => x == y,
         },
     }
 }
@@ -203,15 +203,15 @@ fn same_points(a: LoopRt, b: LoopRt) -> bool {
         && same_f64(a.size, b.size)
 }
 
-fn same_loop(a: MaybeLoop, b: MaybeLoop) -> bool {
+fn same_loop(a: Option<LoopRt>, b: Option<LoopRt>) -> bool {
     match a {
-        MaybeLoop::Absent => match b {
-            MaybeLoop::Absent => true,
-            MaybeLoop::Present(_) => false,
+        None => match b {
+            None => true,
+            Some(_) => false,
         },
-        MaybeLoop::Present(x) => match b {
-            MaybeLoop::Absent => false,
-            MaybeLoop::Present(y) => same_points(x, y),
+        Some(x) => match b {
+            None => false,
+            Some(y) => same_points(x, y),
         },
     }
 }
@@ -275,22 +275,13 @@ fn shape_numbers(s: FilterShape) -> [f32; 7] {
         FilterShape::Off => [0.0, 0.0, 0.0, 0.0, 0.0, 0.0, 0.0],
         FilterShape::Lp1 { p } => [1.0, p, 0.0, 0.0, 0.0, 0.0, 0.0],
         FilterShape::Hp1 { p } => [2.0, p, 0.0, 0.0, 0.0, 0.0, 0.0],
-        FilterShape::Biquad {
-            b0,
-            b1,
-            b2,
-            a1,
-            a2,
-            stages,
-        } => [3.0, b0, b1, b2, a1, a2, stages as f32],
+        FilterShape::Biquad { c, stages } => [3.0, c.b0, c.b1, c.b2, c.a1, c.a2, stages as f32],
     }
 }
 
-fn same_shape(a: FilterSlot, b: FilterSlot) -> bool {
-    let x = a.shape;
-    let y = b.shape;
-    let xs = shape_numbers(x);
-    let ys = shape_numbers(y);
+fn same_shape(a: FilterShape, b: FilterShape) -> bool {
+    let xs = shape_numbers(a);
+    let ys = shape_numbers(b);
     for i in 0..7 {
         if !same_f32(xs[i], ys[i]) {
             return false;
@@ -363,15 +354,15 @@ fn same_state(a: NoteState, b: NoteState) -> bool {
         && kernel_number(k) == kernel_number(l)
 }
 
-fn same_note(a: MaybeNote, b: MaybeNote) -> bool {
+fn same_note(a: Option<NoteState>, b: Option<NoteState>) -> bool {
     match a {
-        MaybeNote::Absent => match b {
-            MaybeNote::Absent => true,
-            MaybeNote::Present(_) => false,
+        None => match b {
+            None => true,
+            Some(_) => false,
         },
-        MaybeNote::Present(x) => match b {
-            MaybeNote::Absent => false,
-            MaybeNote::Present(y) => same_state(x, y),
+        Some(x) => match b {
+            None => false,
+            Some(y) => same_state(x, y),
         },
     }
 }

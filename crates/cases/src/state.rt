@@ -3,10 +3,10 @@ use super::lend::{program, set_sample, set_words};
 use super::play::play;
 use block::BlockTime;
 use events::{Both, SampleVoice};
-use filter::{FilterShape, FilterSlot};
-use player::{Cold, LoopRt, MaybeLoop, Player};
+use filter::{Coefficients, FilterShape};
+use player::{Cold, LoopRt, Player};
 use players::Players;
-use session::{Limit, OffBy, Session, Start, enter_record, fresh_session};
+use session::{Session, Start, enter_record, fresh_session};
 use voice::make;
 
 // ---- sessions
@@ -36,14 +36,14 @@ fn start_of(voice: u64, region: u32) -> Start {
         voice,
         region,
         group: 0,
-        off_by: OffBy::Nobody,
+        off_by: None,
         note: 60,
         vel: 100,
         on_note: true,
         serial: 1,
         at: 0,
-        note_polyphony: Limit::Unlimited,
-        polyphony: Limit::Unlimited,
+        note_polyphony: None,
+        polyphony: None,
     }
 }
 
@@ -216,18 +216,15 @@ pub fn changed(p: Player, c: Change) -> Player {
 
 // Stages in the last filter slot.
 pub fn with_stages(p: Player, stages: u8) -> Player {
-    let f = FilterSlot {
-        shape: FilterShape::Biquad {
-            b0: 1.0,
-            b1: 0.0,
-            b2: 0.0,
-            a1: 0.0,
-            a2: 0.0,
-            stages,
-        },
+    let c = Coefficients {
+        b0: 1.0,
+        b1: 0.0,
+        b2: 0.0,
+        a1: 0.0,
+        a2: 0.0,
     };
     let mut q = p;
-    q.slots[5] = f;
+    q.slots[5] = FilterShape::Biquad { c, stages };
     q
 }
 
@@ -236,7 +233,7 @@ fn looped(c: Cold, l: LoopRt) -> Cold {
     let interp = c.interp;
     let loop_mode = c.loop_mode;
     let off_mode = c.off_mode;
-    let lp = MaybeLoop::Present(l);
+    let lp = Some(l);
     Cold {
         step: c.step,
         span,

@@ -5,7 +5,7 @@ use mathlib.Core.Bool.{Bool, true}
 use mathlib.Core.List.{List}
 use lib.ListN.{length, get_or, length-map}
 use borrow.Author.Tests.{ltb-false, not-true}
-use Rattle.program.proofs.Binding.{every-at}
+use Rattle.program.proofs.Checks.{every-at}
 use Rattle.players.specs.Seats.{sounding, slot_numbers, slots_from}
 use Rattle.player_checks.specs.Sound.{players_fit, samples_fit}
 use Rattle.players.specs.declared.Players.{Players}

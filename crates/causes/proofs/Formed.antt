@@ -6,7 +6,7 @@ use mathlib.Core.List.{List}
 use lib.ListN.{length, length-map}
 use borrow.Author.Tests.{not-true, not-false}
 use Rattle.program.specs.Valid.{every}
-use Rattle.program.proofs.Checks.{every_append}
+use Rattle.std.proofs.lemmas.List.Folds.{list_all-append}
 use Rattle.players.specs.Seats.{sounding, slots_from, slot_numbers}
 use Rattle.players.specs.declared.Players.{Players}
 use Rattle.players.proofs.Kept.{sounding-few}
@@ -28,11 +28,11 @@ own-slots id s ps ks b e f =
 module _ (s : Session) (v : SampleVoice) (b : Bool) (told : b ≡ every (session_tests v.voice s)) where
   pub ill-formed : not b ≡ true → false ≡ well_formed s v
   unfolding well_formed
-  ill-formed e = sym (every_append (session_tests v.voice s) (voice_tests s v) ∙ ap (λ (t : Bool). t && every (voice_tests s v)) (sym told ∙ not-true b e))
+  ill-formed e = sym (list_all-append (λ t. t) (session_tests v.voice s) (voice_tests s v) ∙ ap (λ (t : Bool). t && every (voice_tests s v)) (sym told ∙ not-true b e))
 
   pub well : (r : Bool) → not b ≡ false → r ≡ every (voice_tests s v) → r ≡ well_formed s v
   unfolding well_formed
-  well r e f = f ∙ sym (every_append (session_tests v.voice s) (voice_tests s v) ∙ ap (λ (t : Bool). t && every (voice_tests s v)) (sym told ∙ not-false b e))
+  well r e f = f ∙ sym (list_all-append (λ t. t) (session_tests v.voice s) (voice_tests s v) ∙ ap (λ (t : Bool). t && every (voice_tests s v)) (sym told ∙ not-false b e))
 
 module _ (s : Session) (v : SampleVoice) (ws ss : List ℕ) (frames table : ℕ) (b : Bool) (told : b ≡ well_formed s v) where
   pub ill-stated : not b ≡ true → false ≡ state_fits s v ws ss frames table

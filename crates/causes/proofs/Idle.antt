@@ -1,4 +1,6 @@
 -- A quiet block passes the tests 8 and 9, and the plain way plays nothing else. Assumes nothing.
+use Rattle.std.specs.List.{list_any}
+use Rattle.std.specs.Prelude.{cond, filter, ◌||◌}
 use Prim.Native.Nat.{ℕ}
 use mathlib.Core.Path.{◌≡◌, refl, ap, ◌∙◌}
 use mathlib.Core.Bool.{Bool, true, false, true≢false}
@@ -7,12 +9,12 @@ use lib.Dec.{ltb, eqb}
 use lib.ListN.{length, get_or, take}
 use borrow.Author.Tests.{ltb-false, eqb-true, not-true}
 use Rattle.program.specs.Valid.{every}
-use Rattle.program.proofs.Binding.{every-at}
+use Rattle.program.proofs.Checks.{every-at}
 use Rattle.players.specs.Seats.{sounding, slot_numbers}
 use Rattle.player_checks.specs.Sound.{player_fits, sample_fits, players_fit, samples_fit}
 use Rattle.players.specs.declared.Players.{Players}
 use Rattle.player.specs.declared.Player.{Player}
-use Rattle.session.specs.Lists.{pick, any, keep, used_of}
+use Rattle.session.specs.Lists.{used_of}
 use Rattle.session.specs.Records.{of_voice}
 use Rattle.session.specs.Rules.{slots_of}
 use Rattle.session.specs.State.{view}
@@ -34,12 +36,12 @@ use Rattle.causes.proofs.Passed.{connected-fits}
 none-sounding : (ps : Players) → ps.count ≡ 0 → sounding ps ≡ []
 none-sounding ps e = ap (λ (n : ℕ). take (used_of 32 n) ps.players) e
 
-none-listed : (id : ℕ) (rs : List PlayerRecord) → any (of_voice id) rs ≡ false → slots_of id rs ≡ []
+none-listed : (id : ℕ) (rs : List PlayerRecord) → list_any (of_voice id) rs ≡ false → slots_of id rs ≡ []
 none-listed id [] e = refl
 none-listed id (r ∷ rs) e = by-case (eqb r.voice id) e (none-listed id rs)
   where
-    by-case : (t : Bool) → pick t true (any (of_voice id) rs) ≡ false → (any (of_voice id) rs ≡ false → slots_of id rs ≡ [])
-        → map (λ (x : PlayerRecord). x.slot) (pick t (r ∷ keep (of_voice id) rs) (keep (of_voice id) rs)) ≡ []
+    by-case : (t : Bool) → t || list_any (of_voice id) rs ≡ false → (list_any (of_voice id) rs ≡ false → slots_of id rs ≡ [])
+        → map (λ (x : PlayerRecord). x.slot) (cond t (r ∷ filter (of_voice id) rs) (filter (of_voice id) rs)) ≡ []
     by-case true e rest = absurd (true≢false e)
     by-case false e rest = rest e
 
@@ -55,7 +57,7 @@ module _ (s : Session) (v : SampleVoice) (silent : v.players.count ≡ 0) where
   unfolding samples_fit
   none-past ss = ap (λ (qs : List Player). every (map (sample_fits ss) qs)) (none-sounding v.players silent)
 
-  own-order : any (of_voice v.voice) (view s) ≡ false → slots_in_order v.voice (slot_numbers (sounding v.players)) s ≡ true
+  own-order : list_any (of_voice v.voice) (view s) ≡ false → slots_in_order v.voice (slot_numbers (sounding v.players)) s ≡ true
   unfolding slots_in_order
   own-order e =
       ap (λ (qs : List Player). same_list (slots_of v.voice (view s)) (slot_numbers qs)) (none-sounding v.players silent)
@@ -88,7 +90,7 @@ module _ (l : Lent) (s : Session) (v : SampleVoice)
   silent : v.players.count ≡ 0
   silent = eqb-true v.players.count 0 (at 0)
 
-  listed : (stray_record s ≡ false) × (over_voice s ≡ false) × (region_outside v.program.regions s ≡ false) × (any (of_voice v.voice) (view s) ≡ false)
+  listed : (stray_record s ≡ false) × (over_voice s ≡ false) × (region_outside v.program.regions s ≡ false) × (list_any (of_voice v.voice) (view s) ≡ false)
   listed = fit-tells v.program.regions v.voice s (at 2)
 
   formed : well_formed s v ≡ true

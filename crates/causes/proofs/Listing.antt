@@ -1,12 +1,13 @@
 -- The walk over a list with records of the voice itself: they have its players' slots in order, and whether an off time waits on one of
 -- them. Assumes nothing.
+use Rattle.std.specs.List.{list_any}
 use Prim.Native.Nat.{ℕ, ◌+◌, ◌<◌, ◌≤◌}
 use mathlib.Core.Path.{◌≡◌, refl, sym, ap, ◌∙◌}
 use mathlib.Core.Bool.{Bool, true, false, ◌&&◌, ◌||◌, true≢false}
 use mathlib.Core.List.{List}
 use native.Mathlib.Nat.{le_antisymm}
 use lib.ListN.{length, take, get_or}
-use Rattle.session.specs.Lists.{any, used_of}
+use Rattle.session.specs.Lists.{used_of}
 use Rattle.session.specs.Records.{waits}
 use Rattle.session.specs.Rules.{slots_of}
 use Rattle.session.specs.State.{view, slot_list}
@@ -33,7 +34,7 @@ misfits r e b w f =
 pub record Looked (nr id : ℕ) (ids : List ℕ) (n m : ℕ) (xs : List PlayerRecord) (ks : List ℕ) (i j : ℕ) (counts : List ℕ) (w : Bool) : Type 0 where
   pub tallied : Tallied nr 0 ids n xs i counts
   pub left : Left id n m xs ks i j
-  pub heard : w ≡ any (waits id) (take i xs)
+  pub heard : w ≡ list_any (waits id) (take i xs)
 
 module _ (nr id : ℕ) (own : Slots) (s : Session) where
   pub by-others : false ≡ others_fit nr 0 s → false ≡ list_fits nr id (slot_list own) s
@@ -55,14 +56,14 @@ module _ (nr id : ℕ) (own : Slots) (s : Session) where
     unfolding list_fits
     all_fit a b e = in_order b e ∙ ap (λ t. t && slots_in_order id (slot_list own) s) a
 
-    pub all-heard : (i : ℕ) → i ≤ n → n ≤ i → (w : Bool) → w ≡ any (waits id) (take i s.players) → w ≡ off_waits id s
-    all-heard i low high w e = e ∙ ap (λ k. any (waits id) (take k s.players)) (le_antisymm low high ∙ used)
+    pub all-heard : (i : ℕ) → i ≤ n → n ≤ i → (w : Bool) → w ≡ list_any (waits id) (take i s.players) → w ≡ off_waits id s
+    all-heard i low high w e = e ∙ ap (λ k. list_any (waits id) (take k s.players)) (le_antisymm low high ∙ used)
 
 -- one record more: the off time that waits on it is heard
-pub heard-next : (id : ℕ) (xs : List PlayerRecord) (i : ℕ) (d : PlayerRecord) → i < length xs → (w : Bool) → w ≡ any (waits id) (take i xs)
-    → (b : Bool) → b ≡ waits id (get_or xs i d) → w || b ≡ any (waits id) (take (i + 1) xs)
+pub heard-next : (id : ℕ) (xs : List PlayerRecord) (i : ℕ) (d : PlayerRecord) → i < length xs → (w : Bool) → w ≡ list_any (waits id) (take i xs)
+    → (b : Bool) → b ≡ waits id (get_or xs i d) → w || b ≡ list_any (waits id) (take (i + 1) xs)
 heard-next id xs i d h w e b f =
-    ap (λ t. t || b) e ∙ ap (λ t. any (waits id) (take i xs) || t) f ∙ sym (any_step (waits id) xs i d h)
+    ap (λ t. t || b) e ∙ ap (λ t. list_any (waits id) (take i xs) || t) f ∙ sym (any_step (waits id) xs i d h)
 
 -- heard, or as it was
 pub or-true : (w b : Bool) → b ≡ true → true ≡ w || b

@@ -10,12 +10,13 @@ use lib.ListN.{length, get_or, take, drop, replicate}
 use lib.Seq.{length-take-le}
 use lib.Ieee.{Float}
 use borrow.Author.Tests.{leb-true, ltb-true, ltb-false, eqb-false, lt-leb, not-true}
-use Rattle.program.specs.Bind.{program_ok, region_count, sample_count, counts_ok, counts_in, indexes, program_tests}
+use Rattle.program.specs.Bind.{program_ok, region_count, sample_count, counts_ok, counts_in, program_tests}
+use Rattle.std.specs.List.{list_all, range_with_len}
 use Rattle.program.specs.Region.{words_of, region_of, region_at, playback_of, float_of}
 use Rattle.program.specs.Sample.{sample_at, sample_of, shape_tests}
-use Rattle.program.specs.Valid.{every, valid_region, region_tests, loop_in_order}
+use Rattle.program.specs.Valid.{every, valid_region, region_tests, place_tests, loop_in_order}
 use Rattle.program.specs.declared.bind.BoundProgram.{BoundProgram}
-use Rattle.program.proofs.Binding.{every-at}
+use Rattle.program.proofs.Checks.{every-at}
 use Rattle.program.proofs.Bound.{regions-are, samples-are, table-enough, region-good, sample-good}
 use Rattle.player_checks.specs.Sound.{samples_fit}
 use Rattle.player_checks.proofs.Fits.{fit-ok}
@@ -52,8 +53,9 @@ module _ (b : BoundProgram) (ws ss : List ℕ) (frames table : ℕ) (ok : progra
   no_loop = tt
 
   in_order : (i : ℕ) → valid_region b.samples (words_of ws i) ≡ true → T (loop_in_order (region_at ws i).play.loop_points)
-  unfolding valid_region
-  in_order i e = true-is _ (every-at (region_tests b.samples (words_of ws i) (region_at ws i)) 2 e)
+  unfolding valid_region place_tests
+  in_order i e =
+      true-is _ (every-at (place_tests b.samples (region_at ws i)) 1 (every-at (region_tests b.samples (words_of ws i) (region_at ws i)) 1 e))
 
   -- a region of the program has its loop in order, and one past them has none
   pub bindable : Bindable ws
@@ -87,7 +89,7 @@ module _ (b : BoundProgram) (ws ss : List ℕ) (frames table : ℕ) (ok : progra
   unfolding program_ok counts_ok
   few-regions =
       let c = every-at (program_tests b ws ss frames table) 4 ok in
-      let h = leb-true (region_count ws) 256 (every-at (leb (region_count ws) 256 ∷ leb (sample_count ss) 256 ∷ every (map (counts_in ws) (indexes 0 (region_count ws))) ∷ []) 0 c) in
+      let h = leb-true (region_count ws) 256 (every-at (leb (region_count ws) 256 ∷ leb (sample_count ss) 256 ∷ list_all (counts_in ws) (range_with_len 0 (region_count ws)) ∷ []) 0 c) in
       let r = regions-are b ws ss frames table ok in
       omega arith
 

@@ -1,4 +1,6 @@
 -- One walk that asks several things of the list, with a count for each live voice. Assumes nothing.
+use Rattle.std.specs.List.{list_any}
+use Rattle.std.specs.Prelude.{cond, filter, count_by}
 use Prim.Native.Nat.{ℕ, zero, suc, ◌+◌, ◌-◌, ◌<◌, ◌≤◌}
 use mathlib.Core.Path.{◌≡◌, refl, sym, ap, ◌∙◌}
 use mathlib.Core.Bool.{Bool, true, false, not, ◌&&◌, ◌||◌, true≢false}
@@ -12,10 +14,9 @@ use lib.Dec.{eqb, ltb, leb}
 use borrow.Author.Tests.{eqb-true, eqb-false, eq-eqb, le-ltb, lt-ltb, not-true}
 use Rattle.program.specs.Valid.{every}
 use Rattle.program.proofs.Checks.{after}
-use Rattle.session.specs.Lists.{pick, any, keep, elem, used_of}
+use Rattle.session.specs.Lists.{elem, used_of}
 use Rattle.session.specs.Offs.{first_at}
 use Rattle.session.specs.Records.{of_voice}
-use Rattle.session.specs.Rules.{count_of}
 use Rattle.session.specs.State.{view, live_ids}
 use Rattle.session.specs.Tests.{is_live, over_live, twice_live, stray_record, over_records, over_voice, region_outside}
 use Rattle.causes.specs.Tests.{session_tests}
@@ -23,87 +24,95 @@ use Rattle.causes.specs.Others.{place_in, IsPlace, amiss, others_fit}
 use Rattle.session.specs.declared.PlayerRecord.{PlayerRecord}
 use Rattle.session.specs.declared.Session.{Session}
 use Rattle.session.proofs.Relist.{take-few}
-use Rattle.session.proofs.Walks.{keep_append, count-hit, count-miss, used-below, used-small}
+use Rattle.session.proofs.Walks.{used-below, used-small}
+use Rattle.std.proofs.lemmas.List.Elements.{filter-append}
+use Rattle.std.proofs.lemmas.List.Sums.{length-filter, count_by_more_yes, count_by_more_no}
 
 -- ---- any, by places
 
 module _ {A : Type 0} (p : A → Bool) where
-  any_at : (xs : List A) (j : ℕ) (d : A) → j < length xs → p (get_or xs j d) ≡ true → any p xs ≡ true
+  any_at : (xs : List A) (j : ℕ) (d : A) → j < length xs → p (get_or xs j d) ≡ true → list_any p xs ≡ true
   any_at [] j d h e = absurd (omega (arith, h))
-  any_at (x ∷ xs) zero d h e = ap (λ t. pick t true (any p xs)) e
+  any_at (x ∷ xs) zero d h e = ap (λ t. t || list_any p xs) e
   any_at (x ∷ xs) (suc j) d h e = by-case (p x) (any_at xs j d (omega (arith, h)) e) where
-    by-case : (t : Bool) → any p xs ≡ true → pick t true (any p xs) ≡ true
+    by-case : (t : Bool) → list_any p xs ≡ true → t || list_any p xs ≡ true
     by-case true k = refl
     by-case false k = k
 
-  any-nowhere : (xs : List A) (d : A) → ((j : ℕ) → j < length xs → p (get_or xs j d) ≡ false) → any p xs ≡ false
+  any-nowhere : (xs : List A) (d : A) → ((j : ℕ) → j < length xs → p (get_or xs j d) ≡ false) → list_any p xs ≡ false
   any-nowhere [] d h = refl
   any-nowhere (x ∷ xs) d h =
-      ap (λ t. pick t true (any p xs)) (h 0 (omega arith)) ∙ any-nowhere xs d (λ j k. h (suc j) (omega (arith, k)))
+      ap (λ t. t || list_any p xs) (h 0 (omega arith)) ∙ any-nowhere xs d (λ j k. h (suc j) (omega (arith, k)))
 
-  any-one-more : (xs : List A) (x : A) → any p (xs ++ (x ∷ [])) ≡ any p xs || p x
+  any-one-more : (xs : List A) (x : A) → list_any p (xs ++ (x ∷ [])) ≡ list_any p xs || p x
   any-one-more [] x = by-case (p x) where
-    by-case : (t : Bool) → pick t true false ≡ t
+    by-case : (t : Bool) → t || false ≡ t
     by-case true = refl
     by-case false = refl
   any-one-more (y ∷ xs) x = by-case (p y) (any-one-more xs x) where
-    by-case : (t : Bool) → any p (xs ++ (x ∷ [])) ≡ any p xs || p x → pick t true (any p (xs ++ (x ∷ []))) ≡ pick t true (any p xs) || p x
+    by-case : (t : Bool) → list_any p (xs ++ (x ∷ [])) ≡ list_any p xs || p x → t || list_any p (xs ++ (x ∷ [])) ≡ (t || list_any p xs) || p x
     by-case true h = refl
     by-case false h = h
 
-  pub any_step : (xs : List A) (i : ℕ) (d : A) → i < length xs → any p (take (i + 1) xs) ≡ any p (take i xs) || p (get_or xs i d)
+  pub any_step : (xs : List A) (i : ℕ) (d : A) → i < length xs → list_any p (take (i + 1) xs) ≡ list_any p (take i xs) || p (get_or xs i d)
   any_step xs i d h = rw (add-one, take-suc xs i d h) (any-one-more (take i xs) (get_or xs i d))
 
-  pub any-within : (xs : List A) (n i : ℕ) (d : A) → n ≤ length xs → i < n → p (get_or xs i d) ≡ true → any p (take n xs) ≡ true
+  pub any-within : (xs : List A) (n i : ℕ) (d : A) → n ≤ length xs → i < n → p (get_or xs i d) ≡ true → list_any p (take n xs) ≡ true
   any-within xs n i d h k e =
       let l : length (take n xs) ≡ n = length-take-le n xs h in
       any_at (take n xs) i d (omega arith) (ap p (get_or-take n xs i d k) ∙ e)
 
-  some-there : (xs : List A) → first_at p xs < length xs → any p xs ≡ true
+  some-there : (xs : List A) → first_at p xs < length xs → list_any p xs ≡ true
   some-there [] h = absurd (omega (arith, h))
   some-there (x ∷ xs) h = by-case (p x) h (some-there xs) where
-    by-case : (t : Bool) → pick t zero (suc (first_at p xs)) < suc (length xs) → (first_at p xs < length xs → any p xs ≡ true) → pick t true (any p xs) ≡ true
+    by-case : (t : Bool) → cond t zero (suc (first_at p xs)) < suc (length xs) → (first_at p xs < length xs → list_any p xs ≡ true) → t || list_any p xs ≡ true
     by-case true k rest = refl
     by-case false k rest = rest (omega (arith, k))
 
-  none-there : (xs : List A) → length xs ≤ first_at p xs → any p xs ≡ false
+  none-there : (xs : List A) → length xs ≤ first_at p xs → list_any p xs ≡ false
   none-there [] h = refl
   none-there (x ∷ xs) h = by-case (p x) h (none-there xs) where
-    by-case : (t : Bool) → suc (length xs) ≤ pick t zero (suc (first_at p xs)) → (length xs ≤ first_at p xs → any p xs ≡ false) → pick t true (any p xs) ≡ false
+    by-case : (t : Bool) → suc (length xs) ≤ cond t zero (suc (first_at p xs)) → (length xs ≤ first_at p xs → list_any p xs ≡ false) → t || list_any p xs ≡ false
     by-case true k rest = absurd (omega (arith, k))
     by-case false k rest = rest (omega (arith, k))
 
   first_holds : (xs : List A) (d : A) → first_at p xs < length xs → p (get_or xs (first_at p xs) d) ≡ true
   first_holds [] d h = absurd (omega (arith, h))
   first_holds (x ∷ xs) d h = by-case (p x) refl h (first_holds xs d) where
-    by-case : (t : Bool) → p x ≡ t → pick t zero (suc (first_at p xs)) < suc (length xs) → (first_at p xs < length xs → p (get_or xs (first_at p xs) d) ≡ true)
-        → p (get_or (x ∷ xs) (pick t zero (suc (first_at p xs))) d) ≡ true
+    by-case : (t : Bool) → p x ≡ t → cond t zero (suc (first_at p xs)) < suc (length xs) → (first_at p xs < length xs → p (get_or xs (first_at p xs) d) ≡ true)
+        → p (get_or (x ∷ xs) (cond t zero (suc (first_at p xs))) d) ≡ true
     by-case true e k rest = e
     by-case false e k rest = rest (omega (arith, k))
 
   first-before : (xs : List A) (j : ℕ) (d : A) → j < length xs → p (get_or xs j d) ≡ true → first_at p xs ≤ j
   first-before [] j d h e = absurd (omega (arith, h))
-  first-before (x ∷ xs) zero d h e = let q : pick (p x) zero (suc (first_at p xs)) ≡ zero = ap (λ t. pick t zero (suc (first_at p xs))) e in omega (arith, q)
+  first-before (x ∷ xs) zero d h e = let q : cond (p x) zero (suc (first_at p xs)) ≡ zero = ap (λ t. cond t zero (suc (first_at p xs))) e in omega (arith, q)
   first-before (x ∷ xs) (suc j) d h e = by-case (p x) (first-before xs j d (omega (arith, h)) e) where
-    by-case : (t : Bool) → first_at p xs ≤ j → pick t zero (suc (first_at p xs)) ≤ suc j
+    by-case : (t : Bool) → first_at p xs ≤ j → cond t zero (suc (first_at p xs)) ≤ suc j
     by-case true k = omega arith
     by-case false k = omega (arith, k)
 
-  any-or : (q : A → Bool) (xs : List A) → any (λ x. p x || q x) xs ≡ any p xs || any q xs
+  any-or : (q : A → Bool) (xs : List A) → list_any (λ x. p x || q x) xs ≡ list_any p xs || list_any q xs
   any-or q [] = refl
-  any-or q (x ∷ xs) = by-case (p x) (q x) (any p xs) (any q xs) (any-or q xs) where
-    by-case : (s t a b : Bool) → any (λ y. p y || q y) xs ≡ a || b → pick (s || t) true (any (λ y. p y || q y) xs) ≡ pick s true a || pick t true b
+  any-or q (x ∷ xs) = by-case (p x) (q x) (list_any p xs) (list_any q xs) (any-or q xs) where
+    by-case : (s t a b : Bool) → list_any (λ y. p y || q y) xs ≡ a || b → (s || t) || list_any (λ y. p y || q y) xs ≡ (s || a) || (t || b)
     by-case true t a b h = refl
     by-case false true true b h = refl
     by-case false true false b h = refl
     by-case false false a b h = h
 
-  count-grows : (xs : List A) (m n : ℕ) → m ≤ n → length (keep p (take m xs)) ≤ length (keep p (take n xs))
+  count-grows : (xs : List A) (m n : ℕ) → m ≤ n → count_by p (take m xs) ≤ count_by p (take n xs)
   count-grows xs m n h =
       let e : take n xs ≡ take m (take n xs) ++ drop m (take n xs) = sym (take-append-drop m (take n xs)) in
-      let f : keep p (take n xs) ≡ keep p (take m (take n xs)) ++ keep p (drop m (take n xs)) = ap (keep p) e ∙ keep_append p (take m (take n xs)) (drop m (take n xs)) in
+      let f : filter p (take n xs) ≡ filter p (take m (take n xs)) ++ filter p (drop m (take n xs)) = ap (filter p) e ∙ filter-append p (take m (take n xs)) (drop m (take n xs)) in
       let g : take m (take n xs) ≡ take m xs = take-take m n xs h in
-      omega (arith, ap length f ∙ length-append (keep p (take m (take n xs))) (keep p (drop m (take n xs))), ap (λ l. length (keep p l)) g)
+      omega (
+        arith,
+        length-filter p (take m xs),
+        length-filter p (take n xs),
+        ap length f ∙ length-append (filter p (take m (take n xs))) (filter p (drop m (take n xs))),
+        ap (λ l. length (filter p l)) g,
+      )
 
 pub zero-at : (n p : ℕ) → ◌≡◌ {A = ℕ} (get_or (replicate n 0) p 0) 0
 zero-at zero p = refl
@@ -122,19 +131,19 @@ pub record Tallied (nr id : ℕ) (ids : List ℕ) (n : ℕ) (xs : List PlayerRec
   pub within : i ≤ n
   pub size : length counts ≡ 16
   pub places : length ids ≤ 16
-  pub clean : any (suspect nr id ids) (take i xs) ≡ false
-  pub tally : (k : ℕ) → place_in k ids < length ids → get_or counts (place_in k ids) 0 ≡ count_of (of_voice k) (take i xs)
-  pub few : (k : ℕ) → place_in k ids < length ids → count_of (of_voice k) (take i xs) ≤ 32
+  pub clean : list_any (suspect nr id ids) (take i xs) ≡ false
+  pub tally : (k : ℕ) → place_in k ids < length ids → get_or counts (place_in k ids) 0 ≡ count_by (of_voice k) (take i xs)
+  pub few : (k : ℕ) → place_in k ids < length ids → count_by (of_voice k) (take i xs) ≤ 32
 
 module _ (nr id : ℕ) (s : Session) where
   -- the tests of the list, as the walk asks them
-  asked : others_fit nr id s ≡ not (any (suspect nr id (live_ids s.voices)) (view s)) && not (over_voice s)
+  asked : others_fit nr id s ≡ not (list_any (suspect nr id (live_ids s.voices)) (view s)) && not (over_voice s)
   unfolding others_fit stray_record region_outside
   asked =
       let ids = live_ids s.voices in
-      let e : any (suspect nr id ids) (view s) ≡ (any (λ r. leb nr r.region) (view s) || any (of_voice id) (view s)) || any (λ r. not (elem r.voice ids)) (view s)
-      = any-or (amiss nr id) (λ r. not (elem r.voice ids)) (view s) ∙ ap (λ t. t || any (λ r. not (elem r.voice ids)) (view s)) (any-or (λ r. leb nr r.region) (of_voice id) (view s)) in
-      by-case (any (λ r. not (elem r.voice ids)) (view s)) (over_voice s) (any (λ r. leb nr r.region) (view s)) (any (of_voice id) (view s))
+      let e : list_any (suspect nr id ids) (view s) ≡ (list_any (λ r. leb nr r.region) (view s) || list_any (of_voice id) (view s)) || list_any (λ r. not (elem r.voice ids)) (view s)
+      = any-or (amiss nr id) (λ r. not (elem r.voice ids)) (view s) ∙ ap (λ t. t || list_any (λ r. not (elem r.voice ids)) (view s)) (any-or (λ r. leb nr r.region) (of_voice id) (view s)) in
+      by-case (list_any (λ r. not (elem r.voice ids)) (view s)) (over_voice s) (list_any (λ r. leb nr r.region) (view s)) (list_any (of_voice id) (view s))
       ∙ ap (λ t. not t && not (over_voice s)) (sym e)
     where
       by-case : (a o b c : Bool) → not a && (not o && (not b && not c)) ≡ not ((b || c) || a) && not o
@@ -148,16 +157,16 @@ module _ (nr id : ℕ) (s : Session) where
       by-case false false false true = refl
       by-case false false false false = refl
 
-  suspected : any (suspect nr id (live_ids s.voices)) (view s) ≡ true → false ≡ others_fit nr id s
+  suspected : list_any (suspect nr id (live_ids s.voices)) (view s) ≡ true → false ≡ others_fit nr id s
   suspected e = sym (asked ∙ ap (λ t. not t && not (over_voice s)) e)
 
   crowded : over_voice s ≡ true → false ≡ others_fit nr id s
-  crowded e = sym (asked ∙ ap (λ t. not (any (suspect nr id (live_ids s.voices)) (view s)) && not t) e ∙ by-case (any (suspect nr id (live_ids s.voices)) (view s))) where
+  crowded e = sym (asked ∙ ap (λ t. not (list_any (suspect nr id (live_ids s.voices)) (view s)) && not t) e ∙ by-case (list_any (suspect nr id (live_ids s.voices)) (view s))) where
     by-case : (t : Bool) → not t && false ≡ false
     by-case true = refl
     by-case false = refl
 
-  well : any (suspect nr id (live_ids s.voices)) (view s) ≡ false → over_voice s ≡ false → true ≡ others_fit nr id s
+  well : list_any (suspect nr id (live_ids s.voices)) (view s) ≡ false → over_voice s ≡ false → true ≡ others_fit nr id s
   well e f = sym (asked ∙ ap (λ t. not t && not (over_voice s)) e ∙ ap not f)
 
   -- a list without records
@@ -166,8 +175,8 @@ module _ (nr id : ℕ) (s : Session) where
   none-listed e =
       let u : used_of 512 s.count ≡ 0 = used-small 512 s.count (omega arith) ∙ e in
       let v : view s ≡ [] = ap (λ n. take n s.players) u in
-      well (ap (any (suspect nr id (live_ids s.voices))) v)
-      (any-nowhere (λ k. ltb 32 (count_of (of_voice k) (view s))) (live_ids s.voices) 0 (λ j h. ap (λ l. ltb 32 (count_of (of_voice (get_or (live_ids s.voices) j 0)) l)) v))
+      well (ap (list_any (suspect nr id (live_ids s.voices))) v)
+      (any-nowhere (λ k. ltb 32 (count_by (of_voice k) (view s))) (live_ids s.voices) 0 (λ j h. ap (λ l. ltb 32 (count_by (of_voice (get_or (live_ids s.voices) j 0)) l)) v))
 
   module _ (n live : ℕ) (used : n ≡ used_of 512 s.count) (places : live ≡ used_of 16 s.voices.count) (ids : List ℕ) (told : ids ≡ s.voices.ids) where
     same-ids : take live ids ≡ live_ids s.voices
@@ -191,12 +200,12 @@ module _ (nr id : ℕ) (s : Session) where
       unfolding over_voice
       tally-done q =
           let e : i ≡ n = le_antisymm h.within q in
-          let c : any (suspect nr id (live_ids s.voices)) (view s) ≡ false
-          = ap (λ l. any (suspect nr id l) (view s)) (sym same-ids) ∙ ap (λ m. any (suspect nr id (take live ids)) (take m s.players)) (sym (e ∙ used)) ∙ h.clean in
-          well c (any-nowhere (λ k. ltb 32 (count_of (of_voice k) (view s))) (live_ids s.voices) 0
-          (λ j k. le-ltb 32 (count_of (of_voice (get_or (live_ids s.voices) j 0)) (view s)) (few-at j k e)))
+          let c : list_any (suspect nr id (live_ids s.voices)) (view s) ≡ false
+          = ap (λ l. list_any (suspect nr id l) (view s)) (sym same-ids) ∙ ap (λ m. list_any (suspect nr id (take live ids)) (take m s.players)) (sym (e ∙ used)) ∙ h.clean in
+          well c (any-nowhere (λ k. ltb 32 (count_by (of_voice k) (view s))) (live_ids s.voices) 0
+          (λ j k. le-ltb 32 (count_by (of_voice (get_or (live_ids s.voices) j 0)) (view s)) (few-at j k e)))
         where
-          few-at : (j : ℕ) → j < length (live_ids s.voices) → i ≡ n → count_of (of_voice (get_or (live_ids s.voices) j 0)) (view s) ≤ 32
+          few-at : (j : ℕ) → j < length (live_ids s.voices) → i ≡ n → count_by (of_voice (get_or (live_ids s.voices) j 0)) (view s) ≤ 32
           few-at j k e =
               let w : ℕ = get_or (live_ids s.voices) j 0 in
               let b : place_in w (live_ids s.voices) ≤ j = first-before (λ x. eqb x w) (live_ids s.voices) j 0 k (eq-eqb w w refl) in
@@ -206,14 +215,14 @@ module _ (nr id : ℕ) (s : Session) where
       module _ (d : PlayerRecord) (inside : i < n) where
         pub tally-amiss : (b : Bool) → b ≡ amiss nr id (get_or s.players i d) → b ≡ true → false ≡ others_fit nr id s
         tally-amiss b f e =
-            suspected (ap (λ l. any (suspect nr id l) (view s)) (sym same-ids) ∙ ap (λ m. any (suspect nr id (take live ids)) (take m s.players)) (sym used)
+            suspected (ap (λ l. list_any (suspect nr id l) (view s)) (sym same-ids) ∙ ap (λ m. list_any (suspect nr id (take live ids)) (take m s.players)) (sym used)
             ∙ any-within (suspect nr id (take live ids)) s.players n i d h.fits inside (ap (λ t. t || not (elem (get_or s.players i d).voice (take live ids))) (sym f ∙ e)))
 
         module _ (fine : amiss nr id (get_or s.players i d) ≡ false) (p : ℕ) (at : p ≡ place_in (get_or s.players i d).voice (take live ids)) where
           pub tally-stray : length (take live ids) ≤ p → false ≡ others_fit nr id s
           tally-stray q =
               let e : elem (get_or s.players i d).voice (take live ids) ≡ false = none-there (λ x. eqb x (get_or s.players i d).voice) (take live ids) (omega arith) in
-              suspected (ap (λ l. any (suspect nr id l) (view s)) (sym same-ids) ∙ ap (λ m. any (suspect nr id (take live ids)) (take m s.players)) (sym used)
+              suspected (ap (λ l. list_any (suspect nr id l) (view s)) (sym same-ids) ∙ ap (λ m. list_any (suspect nr id (take live ids)) (take m s.players)) (sym used)
               ∙ any-within (suspect nr id (take live ids)) s.players n i d h.fits inside (ap (λ t. amiss nr id (get_or s.players i d) || not t) e ∙ by-case (amiss nr id (get_or s.players i d))))
             where
               by-case : (t : Bool) → t || true ≡ true
@@ -221,12 +230,11 @@ module _ (nr id : ℕ) (s : Session) where
               by-case false = refl
 
           module _ (there : p < length (take live ids)) where
-            counted-here : count_of (of_voice (get_or s.players i d).voice) (take i s.players) + 1 ≡ count_of (of_voice (get_or s.players i d).voice) (take (i + 1) s.players)
+            counted-here : count_by (of_voice (get_or s.players i d).voice) (take i s.players) + 1 ≡ count_by (of_voice (get_or s.players i d).voice) (take (i + 1) s.players)
             counted-here =
-                count-hit (of_voice (get_or s.players i d).voice) s.players i (count_of (of_voice (get_or s.players i d).voice) (take i s.players)) d refl
-                (omega (arith, h.fits)) true (sym (eq-eqb (get_or s.players i d).voice (get_or s.players i d).voice refl)) refl
+                sym (count_by_more_yes (of_voice (get_or s.players i d).voice) s.players i d (omega (arith, h.fits)) (eq-eqb (get_or s.players i d).voice (get_or s.players i d).voice refl))
 
-            tally-here : get_or counts p 0 ≡ count_of (of_voice (get_or s.players i d).voice) (take i s.players)
+            tally-here : get_or counts p 0 ≡ count_by (of_voice (get_or s.players i d).voice) (take i s.players)
             tally-here = ap (λ q. get_or counts q 0) at ∙ h.tally (get_or s.players i d).voice (omega arith)
 
             pub tally-over : 32 ≤ get_or counts p 0 → false ≡ others_fit nr id s
@@ -236,9 +244,9 @@ module _ (nr id : ℕ) (s : Session) where
                 let l₀ : place_in w (take live ids) < length (take live ids) = omega (arith, at) in
                 let l : place_in w (live_ids s.voices) < length (live_ids s.voices) = rw same-ids at l₀ in
                 let v : get_or (live_ids s.voices) (place_in w (live_ids s.voices)) 0 ≡ w = eqb-true _ _ (first_holds (λ x. eqb x w) (live_ids s.voices) 0 l) in
-                let c : 32 < count_of (of_voice w) (view s) = rw (sym used) (omega (arith, tally-here, counted-here, count-grows (of_voice w) s.players (i + 1) n (omega arith))) in
-                crowded (any_at (λ k. ltb 32 (count_of (of_voice k) (view s))) (live_ids s.voices) (place_in w (live_ids s.voices)) 0 l
-                (ap (λ k. ltb 32 (count_of (of_voice k) (view s))) v ∙ lt-ltb 32 (count_of (of_voice w) (view s)) c))
+                let c : 32 < count_by (of_voice w) (view s) = rw (sym used) (omega (arith, tally-here, counted-here, count-grows (of_voice w) s.players (i + 1) n (omega arith))) in
+                crowded (any_at (λ k. ltb 32 (count_by (of_voice k) (view s))) (live_ids s.voices) (place_in w (live_ids s.voices)) 0 l
+                (ap (λ k. ltb 32 (count_by (of_voice k) (view s))) v ∙ lt-ltb 32 (count_by (of_voice w) (view s)) c))
 
             pub tally-next : get_or counts p 0 < 32 → (x : ℕ) → x ≡ get_or counts p 0 + 1 → Tallied nr id (take live ids) n s.players (i + 1) (set counts p x)
             tally-next q x e =
@@ -255,7 +263,7 @@ module _ (nr id : ℕ) (s : Session) where
                 here : p < length counts
                 here = omega (arith, h.size, h.places)
 
-                clean-on : any (suspect nr id (take live ids)) (take (i + 1) s.players) ≡ false
+                clean-on : list_any (suspect nr id (take live ids)) (take (i + 1) s.players) ≡ false
                 clean-on =
                     let e : elem (get_or s.players i d).voice (take live ids) ≡ true = some-there (λ y. eqb y (get_or s.players i d).voice) (take live ids) (omega (arith, at)) in
                     any_step (suspect nr id (take live ids)) s.players i d (omega (arith, h.fits))
@@ -263,16 +271,16 @@ module _ (nr id : ℕ) (s : Session) where
                     ∙ ap (λ t. t || not (elem (get_or s.players i d).voice (take live ids))) fine ∙ ap not e
 
                 by-voice : (k : ℕ) → place_in k (take live ids) < length (take live ids) → (t : Bool) → eqb (get_or s.players i d).voice k ≡ t
-                    → (get_or (set counts p x) (place_in k (take live ids)) 0 ≡ count_of (of_voice k) (take (i + 1) s.players)) × (count_of (of_voice k) (take (i + 1) s.players) ≤ 32)
+                    → (get_or (set counts p x) (place_in k (take live ids)) 0 ≡ count_by (of_voice k) (take (i + 1) s.players)) × (count_by (of_voice k) (take (i + 1) s.players) ≤ 32)
                 by-voice k g true f =
                     let same : (get_or s.players i d).voice ≡ k = eqb-true (get_or s.players i d).voice k f in
-                    let c : count_of (of_voice k) (take i s.players) + 1 ≡ count_of (of_voice k) (take (i + 1) s.players) = rw same at counted-here in
-                    let m : get_or counts p 0 ≡ count_of (of_voice k) (take i s.players) = rw same at tally-here in
+                    let c : count_by (of_voice k) (take i s.players) + 1 ≡ count_by (of_voice k) (take (i + 1) s.players) = rw same at counted-here in
+                    let m : get_or counts p 0 ≡ count_by (of_voice k) (take i s.players) = rw same at tally-here in
                     let z : place_in k (take live ids) ≡ p = sym (rw same at at) in
                     (ap (λ j. get_or (set counts p x) j 0) z ∙ get_or-set_same counts p x 0 here ∙ omega arith, omega arith)
                 by-voice k g false f =
                     let apart : (get_or s.players i d).voice ≡ k → ⊥ = eqb-false (get_or s.players i d).voice k f in
-                    let c : count_of (of_voice k) (take i s.players) ≡ count_of (of_voice k) (take (i + 1) s.players) = count-miss (of_voice k) s.players i (count_of (of_voice k) (take i s.players)) d refl (omega (arith, h.fits)) false (sym f) refl in
+                    let c : count_by (of_voice k) (take i s.players) ≡ count_by (of_voice k) (take (i + 1) s.players) = sym (count_by_more_no (of_voice k) s.players i d (omega (arith, h.fits)) f) in
                     let there-k : get_or (take live ids) (place_in k (take live ids)) 0 ≡ k = eqb-true _ _ (first_holds (λ y. eqb y k) (take live ids) 0 g) in
                     let there-w : get_or (take live ids) p 0 ≡ (get_or s.players i d).voice = ap (λ j. get_or (take live ids) j 0) at ∙ eqb-true _ _ (first_holds (λ y. eqb y (get_or s.players i d).voice) (take live ids) 0 (omega (arith, at))) in
                     let other : place_in k (take live ids) ≡ p → ⊥ = λ z. apart (sym there-w ∙ ap (λ j. get_or (take live ids) j 0) (sym z) ∙ there-k) in
@@ -285,7 +293,7 @@ and_both true b e = (refl, e)
 and_both false b e = absurd (true≢false (sym e))
 
 pub fit-tells : (n id : ℕ) (s : Session) → others_fit n id s ≡ true
-    → (stray_record s ≡ false) × (over_voice s ≡ false) × (region_outside n s ≡ false) × (any (of_voice id) (view s) ≡ false)
+    → (stray_record s ≡ false) × (over_voice s ≡ false) × (region_outside n s ≡ false) × (list_any (of_voice id) (view s) ≡ false)
 unfolding others_fit
 fit-tells n id s e =
     let a = and_both (not (stray_record s)) _ e in

@@ -3,21 +3,8 @@
 #![tactic(auto)]
 
 use desk_script::perform::perform;
-use lister::feed::{LAST, parted_feed};
-
-// Standard output.
-const STDOUT_FILENO: i32 = 1;
+use lister::feed::replay;
 
 fn main() {
-    let mut buf = io::large_buffer();
-    let mut feed = parted_feed();
-    let mut scripts: u64 = 0;
-    while scripts < LAST {
-        feed = perform(&mut buf, feed);
-        if !feed.parting {
-            return;
-        }
-        io::write_all(STDOUT_FILENO, b"=\n");
-        scripts += 1;
-    }
+    replay(perform);
 }

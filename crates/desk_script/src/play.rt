@@ -1,32 +1,33 @@
 // From the first voice on: calls on voices, and the session's list after each.
-ghost use Rattle.std.specs.Prelude.{◌≡◌, ◌<◌};
+ghost use Rattle.std.specs.Prelude.{◌≡◌, ◌<◌, IfOk, length};
 ghost use Rattle.voice.specs.Calls.{number_of};
 
-use super::setup::read_line;
-use super::show::{put_list, refuse};
+use super::show::put_list;
 use block::{BlockTime, Connected};
 use events::SampleVoice;
-use lines::desk::{BlockLine, DeskLine};
-use lister::feed::{Feed, LAST, Left};
-use lister::places::{place_named, place_of};
-use lister::text::flush;
+use lines::desk::{BlockLine, DeskLine, read_desk};
+use lister::feed::{Feed, LAST};
+use lister::places::place_of;
+use lister::show::put_refusal;
+use lister::text::Text;
 use program::bind::BoundProgram;
 use session::{Session, fresh_session};
 use voice::{Answer, Called, block, close, make, reset};
 
+// 01's number of a line that cannot be read here, or that names no live voice.
+const UNREADABLE: u64 = 10;
+
 // The first voice's line, and the program that it bound.
 #[derive(Drop)]
 pub struct Begun {
-    pub feed: Feed,
     pub line: u64,
     pub rate: u32,
     pub program: BoundProgram,
 }
 
-// 01's number of an answer, 0 where the call is done; then the session and the voice as they are left.
+// The session and the voice as a call leaves them.
 #[derive(Drop)]
-struct Did {
-    number: u64,
+struct After {
     session: Session,
     voice: SampleVoice,
 }
@@ -44,54 +45,25 @@ fn number_of(a: Answer) -> u64
     }
 }
 
-fn numbered(c: Called) -> Did {
-    let answer = c.answer;
-    let session = c.session;
-    let voice = c.voice;
-    Did {
-        number: number_of(answer),
-        session,
-        voice,
+// What a call leaves, or 01's number of its refusal.
+fn done(answer: Answer, session: Session, voice: SampleVoice) -> Result<After, u64> {
+    match number_of(answer) {
+        0 => Ok(After { session, voice }),
+        number => Err(number),
     }
 }
 
-// The place that a line is about: a free one for a new voice, that of its voice for a call; 16 where there is none.
-fn place_for(d: DeskLine, ids: &[u64]) -> usize {
-    match d {
-        DeskLine::Voice { rate: _ } => place_of(ids, 0),
-        DeskLine::Block(b) => place_named(ids, b.voice),
-        DeskLine::Reset(id) => place_named(ids, id),
-        DeskLine::Close(id) => place_named(ids, id),
-        DeskLine::Sample { rate: _, frames: _ } => 16,
-        DeskLine::Region(_) => 16,
-        DeskLine::Unreadable => 16,
-    }
-}
-
-// Whether the line asks for a voice, which may be turned back, or for a call on a live one.
-fn is_voice(d: DeskLine) -> bool {
-    match d {
-        DeskLine::Voice { rate: _ } => true,
-        DeskLine::Block(_) => false,
-        DeskLine::Reset(_) => false,
-        DeskLine::Close(_) => false,
-        DeskLine::Sample { rate: _, frames: _ } => false,
-        DeskLine::Region(_) => false,
-        DeskLine::Unreadable => false,
-    }
-}
-
-// The id at a line's place after it.
-fn id_after(d: DeskLine, id: u64) -> u64 {
-    match d {
-        DeskLine::Close(_) => 0,
-        DeskLine::Voice { rate: _ } => id,
-        DeskLine::Block(_) => id,
-        DeskLine::Reset(_) => id,
-        DeskLine::Sample { rate: _, frames: _ } => id,
-        DeskLine::Region(_) => id,
-        DeskLine::Unreadable => id,
-    }
+// The place that a line is about: that of the voice that it names, or for a new voice a free one. One that finds none is turned back.
+fn place_for(d: DeskLine, ids: &[Option<u64>; 16]) -> Result<usize, u64>
+    ensures { IfOk result (λ k. k < 16) }
+{
+    let id = match d {
+        DeskLine::Voice { .. } => return Ok(place_of(ids, None).unwrap_or(0)),
+        DeskLine::Block(b) => b.voice,
+        DeskLine::Reset(id) | DeskLine::Close(id) => id,
+        DeskLine::Sample { .. } | DeskLine::Region(_) => return Err(UNREADABLE),
+    };
+    place_of(ids, Some(id)).ok_or(UNREADABLE)
 }
 
 // A block of these three inputs; `none` stands for each that is not connected.
@@ -151,17 +123,6 @@ fn play_line(
     )
 }
 
-fn close_line(s: Session, v: SampleVoice) -> Called {
-    let c = close(s, v);
-    let answer = c.answer;
-    let session = c.session;
-    Called {
-        answer,
-        session,
-        voice: v,
-    }
-}
-
 // The call of a line on the voice v.
 fn call_line(
     s: Session,
@@ -172,77 +133,18 @@ fn call_line(
     samples: &[u32],
     pcm: &[f32],
     table: &[f32],
-) -> Did {
-    match d {
-        DeskLine::Voice { rate } => {
-            numbered(make(s, std::num::nearest_u32_to_f32(rate), program))
+) -> Result<After, u64> {
+    let c = match d {
+        DeskLine::Voice { rate } => make(s, std::num::nearest_u32_to_f32(rate), program),
+        DeskLine::Block(b) => play_line(s, v, b, words, samples, pcm, table),
+        DeskLine::Reset(_) => reset(s, v),
+        DeskLine::Close(_) => {
+            let c = close(s, v);
+            return done(c.answer, c.session, v);
         }
-        DeskLine::Block(b) => numbered(play_line(s, v, b, words, samples, pcm, table)),
-        DeskLine::Reset(_) => numbered(reset(s, v)),
-        DeskLine::Close(_) => numbered(close_line(s, v)),
-        DeskLine::Sample { rate: _, frames: _ } => Did {
-            number: 10,
-            session: s,
-            voice: v,
-        },
-        DeskLine::Region(_) => Did {
-            number: 10,
-            session: s,
-            voice: v,
-        },
-        DeskLine::Unreadable => Did {
-            number: 10,
-            session: s,
-            voice: v,
-        },
-    }
-}
-
-// 10 before any call: a line that names no live voice.
-fn do_line(
-    s: Session,
-    v: SampleVoice,
-    d: DeskLine,
-    k: usize,
-    program: BoundProgram,
-    words: &[u32],
-    samples: &[u32],
-    pcm: &[f32],
-    table: &[f32],
-) -> Did {
-    if 16 <= k {
-        if !is_voice(d) {
-            return Did {
-                number: 10,
-                session: s,
-                voice: v,
-            };
-        }
-    }
-    call_line(s, v, d, program, words, samples, pcm, table)
-}
-
-// A place that there is. A new voice that finds none is turned back.
-fn seat(k: usize) -> usize
-    ensures { result < 16 }
-{
-    if k < 16 { k } else { 0 }
-}
-
-// B, Z and D are steps.
-fn step_after(d: DeskLine, step: u64) -> u64 {
-    if is_voice(d) {
-        return step;
-    }
-    step % LAST + 1
-}
-
-// The list after a step.
-fn list_after(d: DeskLine, out: &mut [u8], at: usize, s: Session, step: u64) -> usize {
-    if is_voice(d) {
-        return at;
-    }
-    put_list(out, at, s, step)
+        DeskLine::Sample { .. } | DeskLine::Region(_) => return Err(UNREADABLE),
+    };
+    done(c.answer, c.session, c.voice)
 }
 
 // A voice that fills a place before its first use.
@@ -251,54 +153,72 @@ fn blank_voice(s: Session, program: BoundProgram) -> SampleVoice {
     c.voice
 }
 
-// The line of the first voice, and every line after it.
-pub fn play(
-    buf: &mut [u8],
-    g: Begun,
+// The voices that are live, each at the place of its id, and the session that they share.
+#[derive(Drop)]
+struct Desk {
+    session: Session,
+    voices: [SampleVoice; 16],
+    ids: [Option<u64>; 16],
+    step: u64,
+}
+
+// A line's call, and the list after it where it is a step: B, Z and D are.
+fn do_line(
+    desk: &mut Desk,
+    text: &mut Text,
+    d: DeskLine,
+    program: BoundProgram,
     words: &[u32],
     samples: &[u32],
     pcm: &[f32],
     table: &[f32],
-) -> Left {
-    let mut out = io::large_buffer();
-    let mut at: usize = 0;
-    let program = g.program;
-    let mut session = fresh_session();
-    let blank = blank_voice(session, program);
-    let mut voices = [blank; 16];
-    let mut ids = [0u64; 16];
-    let mut feed = g.feed;
-    let mut line = g.line;
-    let mut step: u64 = 0;
-    let mut d = DeskLine::Voice { rate: g.rate };
-    while line < LAST {
-        let k = place_for(d, &ids);
-        let j = seat(k);
-        let v = voices[j];
-        let r = do_line(session, v, d, k, program, words, samples, pcm, table);
-        let number = r.number;
-        if number != 0 {
-            refuse(&mut out, at, line, number);
-            return Left { over: false, feed };
-        }
-        session = r.session;
-        let w = r.voice;
-        voices[j] = w;
-        ids[j] = id_after(d, w.voice);
-        step = step_after(d, step);
-        at = list_after(d, &mut out, at, session, step);
-        let t = read_line(buf, feed);
-        if t.over {
-            flush(&out, at);
-            let rest = t.feed;
-            return Left {
-                over: true,
-                feed: rest,
-            };
-        }
-        d = t.line;
-        feed = t.feed;
-        line += 1;
+) -> Result<(), u64> {
+    let k = place_for(d, &desk.ids)?;
+    let v = desk.voices[k];
+    let r = call_line(desk.session, v, d, program, words, samples, pcm, table)?;
+    desk.session = r.session;
+    let id = r.voice.voice;
+    desk.voices[k] = r.voice;
+    desk.ids[k] = if let DeskLine::Close(_) = d {
+        None
+    } else {
+        Some(id)
+    };
+    if let DeskLine::Voice { .. } = d {
+        return Ok(());
     }
-    Left { over: false, feed }
+    desk.step = desk.step % LAST + 1;
+    put_list(text, desk.session, desk.step);
+    Ok(())
+}
+
+// The line of the first voice, and every line after it.
+pub fn play(feed: &mut Feed, g: Begun, words: &[u32], samples: &[u32], pcm: &[f32], table: &[f32]) {
+    let mut text = Text::new();
+    let program = g.program;
+    let session = fresh_session();
+    let blank = blank_voice(session, program);
+    let mut desk = Desk {
+        session,
+        voices: [blank; 16],
+        ids: [None; 16],
+        step: 0,
+    };
+    let mut d = Some(DeskLine::Voice { rate: g.rate });
+    for line in g.line..LAST {
+        let done = match d {
+            None => Err(UNREADABLE),
+            Some(d) => do_line(&mut desk, &mut text, d, program, words, samples, pcm, table),
+        };
+        if let Err(number) = done {
+            put_refusal(&mut text, line, number, None);
+            text.flush();
+            return;
+        }
+        let Some(next) = feed.next_line() else {
+            text.flush();
+            return;
+        };
+        d = read_desk(next);
+    }
 }

@@ -1,15 +1,16 @@
 // What stands before the first voice: samples and regions, written as the words that binding is lent (docs/PROGRAM.md).
 ghost use Rattle.std.specs.Prelude.{◌≡◌, ◌+◌, ◌<◌, ◌≤◌, length};
-ghost use Rattle.desk_script.specs.Words.{default_region, window_words, mode_words, off_by_words, limit_words, seq_words, turn_words, choke_words, polyphony_words, rule_words, region_words, sample_words};
+ghost use Rattle.desk_script.specs.Words.{default_region, window_words, mode_words, option_words, turn_words, choke_words, polyphony_words, rule_words, region_words, sample_words};
 ghost use Rattle.desk_script.specs.Counts.{SetUpOk};
 
 use exact::order::bits_f32;
 use lines::desk::{DeskLine, RegionLine, read_desk};
 use lines::field::word_of;
-use lister::feed::{Feed, LAST, next_line};
-use program::region::{MaybeU32, OffBy, Seq};
+use lister::feed::{Feed, LAST};
+use program::region::SILENCE;
 
 // `Region::default` of the Rust, over words that are 0.
+#[tactic(auto, unfolding(crate::specs::Words::default_region))]
 fn default_region(w: &mut [u32])
     requires { length w.old ≡ 392 }
     ensures { w.new ≡ default_region w.old }
@@ -28,18 +29,20 @@ fn default_region(w: &mut [u32])
 }
 
 // Sample, keys and velocities.
+#[tactic(auto, unfolding(crate::specs::Words::window_words))]
 fn put_window(w: &mut [u32], r: RegionLine)
     requires { length w.old ≡ 392 }
     ensures { w.new ≡ window_words r w.old }
 {
     let keys = r.window;
-    w[0] = r.sample;
+    w[0] = r.sample.unwrap_or(SILENCE);
     w[1] = keys.lokey as u32;
     w[2] = keys.hikey as u32;
     w[3] = keys.lovel as u32;
     w[4] = keys.hivel as u32;
 }
 
+#[tactic(auto, unfolding(crate::specs::Words::mode_words))]
 fn put_modes(w: &mut [u32], r: RegionLine)
     requires { length w.old ≡ 392 }
     ensures { w.new ≡ mode_words r w.old }
@@ -49,106 +52,47 @@ fn put_modes(w: &mut [u32], r: RegionLine)
 }
 
 // A word that says whether a value is there, and the value.
-#[derive(Drop)]
-struct Held {
-    present: u32,
-    value: u32,
+fn put_option(w: &mut [u32], at: usize, o: Option<u32>)
+    requires { at + 1 < length w.old }
+    ensures { w.new ≡ option_words at o w.old }
+{
+    w[at] = o.is_some() as u32;
+    w[at + 1] = o.unwrap_or(0);
 }
 
 // The same of a sequence.
-#[derive(Drop)]
-struct Turn {
-    present: u32,
-    length: u32,
-    position: u32,
-}
-
-fn off_by_words(o: OffBy) -> Held
-    ensures { result ≡ off_by_words o }
-{
-    match o {
-        OffBy::Nobody => Held {
-            present: 0,
-            value: 0,
-        },
-        OffBy::Group(g) => Held {
-            present: 1,
-            value: word_of(g),
-        },
-    }
-}
-
-fn limit_words(m: MaybeU32) -> Held
-    ensures { result ≡ limit_words m }
-{
-    match m {
-        MaybeU32::Absent => Held {
-            present: 0,
-            value: 0,
-        },
-        MaybeU32::Present(n) => Held {
-            present: 1,
-            value: n,
-        },
-    }
-}
-
-fn seq_words(q: Seq) -> Turn
-    ensures { result ≡ seq_words q }
-{
-    match q {
-        Seq::EveryTime => Turn {
-            present: 0,
-            length: 0,
-            position: 0,
-        },
-        Seq::InTurn { length, position } => Turn {
-            present: 1,
-            length,
-            position,
-        },
-    }
-}
-
+#[tactic(auto, unfolding(crate::specs::Words::turn_words))]
 fn put_seq(w: &mut [u32], r: RegionLine)
     requires { length w.old ≡ 392 }
     ensures { w.new ≡ turn_words r w.old }
 {
-    let q = r.seq;
-    let seq = seq_words(q);
-    w[15] = seq.present;
-    w[16] = seq.length;
-    w[17] = seq.position;
+    let length = r.seq.map(|q| q.length);
+    let position = r.seq.map(|q| q.position);
+    put_option(w, 15, length);
+    w[17] = position.unwrap_or(0);
 }
 
 // The group, and the one that turns it off.
+#[tactic(auto, unfolding(crate::specs::Words::choke_words))]
 fn put_choke(w: &mut [u32], r: RegionLine)
     requires { length w.old ≡ 392 }
     ensures { w.new ≡ choke_words r w.old }
 {
-    let o = r.off_by;
-    let off_by = off_by_words(o);
-    let group = word_of(r.group);
-    w[18] = group;
-    w[19] = off_by.present;
-    w[20] = off_by.value;
+    w[18] = word_of(r.group);
+    put_option(w, 19, r.off_by.map(word_of));
 }
 
 // The two polyphonies.
+#[tactic(auto, unfolding(crate::specs::Words::polyphony_words))]
 fn put_limits(w: &mut [u32], r: RegionLine)
     requires { length w.old ≡ 392 }
     ensures { w.new ≡ polyphony_words r w.old }
 {
-    let n = r.note_polyphony;
-    let note_polyphony = limit_words(n);
-    let p = r.polyphony;
-    let polyphony = limit_words(p);
-    w[23] = note_polyphony.present;
-    w[24] = note_polyphony.value;
-    w[25] = polyphony.present;
-    w[26] = polyphony.value;
+    put_option(w, 23, r.note_polyphony);
+    put_option(w, 25, r.polyphony);
 }
 
+#[tactic(auto, unfolding(crate::specs::Words::rule_words))]
 fn put_rules(w: &mut [u32], r: RegionLine)
     requires { length w.old ≡ 392 }
     ensures { w.new ≡ rule_words r w.old }
@@ -159,6 +103,7 @@ fn put_rules(w: &mut [u32], r: RegionLine)
 }
 
 // The words of an R line's region.
+#[tactic(auto, unfolding(crate::specs::Words::region_words))]
 fn put_region(w: &mut [u32], r: RegionLine)
     requires { length w.old ≡ 392 }
     ensures { w.new ≡ region_words r w.old }
@@ -170,6 +115,7 @@ fn put_region(w: &mut [u32], r: RegionLine)
 }
 
 // The words of an S line's sample: mono, its frames the first of the zeros that are lent.
+#[tactic(auto, unfolding(crate::specs::Words::sample_words))]
 fn put_sample(w: &mut [u32], rate: u32, frames: u32)
     requires { length w.old ≡ 4 }
     ensures { w.new ≡ sample_words rate frames w.old }
@@ -206,124 +152,25 @@ pub fn add_sample(samples: &mut [u32], n: usize, rate: u32, frames: u32) -> usiz
     n + 1
 }
 
-// What a line means; nothing that can be read where the script is over.
-#[derive(Drop)]
-pub struct Read {
-    pub over: bool,
-    pub line: DeskLine,
-    pub feed: Feed,
-}
-
-// The next line's meaning.
-pub fn read_line(buf: &mut [u8], f: Feed) -> Read {
-    let t = next_line(buf, f);
-    let a = t.from;
-    let e = t.to;
-    let line = read_desk(&buf[a..e]);
-    let feed = t.feed;
-    Read {
-        over: t.over,
-        line,
-        feed,
-    }
-}
-
-// What a line does to the reading of samples and regions: nothing, or it ends it.
+// How the reading of samples and regions ends: with the first voice, a line that may not stand there, or the script.
 #[derive(Clone, Copy)]
-pub enum First {
-    Nothing,
+pub enum End {
     Voice(u32),
     Refused,
     Over,
 }
 
-// How many regions and samples were read, the number of the line that came last, and what it asked for.
+// How many regions and samples were read, the number of the line that came last, and how it ended.
 #[derive(Drop)]
 pub struct SetUp {
     pub regions: usize,
     pub samples: usize,
     pub line: u64,
-    pub first: First,
-    pub feed: Feed,
-}
-
-fn first_of(over: bool, d: DeskLine) -> First {
-    if over {
-        return First::Over;
-    }
-    match d {
-        DeskLine::Sample { rate: _, frames: _ } => First::Nothing,
-        DeskLine::Region(_) => First::Nothing,
-        DeskLine::Voice { rate } => First::Voice(rate),
-        DeskLine::Block(_) => First::Refused,
-        DeskLine::Reset(_) => First::Refused,
-        DeskLine::Close(_) => First::Refused,
-        DeskLine::Unreadable => First::Refused,
-    }
-}
-
-fn goes_on(f: First) -> bool {
-    match f {
-        First::Nothing => true,
-        First::Voice(_) => false,
-        First::Refused => false,
-        First::Over => false,
-    }
-}
-
-fn regions_after(d: DeskLine, words: &mut [u32], n: usize) -> usize
-    requires { (n ≤ 257) × (length words.old ≡ 100744) }
-    ensures { result ≤ 257 }
-{
-    match d {
-        DeskLine::Region(r) => add_region(words, n, r),
-        DeskLine::Sample { rate: _, frames: _ } => n,
-        DeskLine::Voice { rate: _ } => n,
-        DeskLine::Block(_) => n,
-        DeskLine::Reset(_) => n,
-        DeskLine::Close(_) => n,
-        DeskLine::Unreadable => n,
-    }
-}
-
-fn samples_after(d: DeskLine, samples: &mut [u32], n: usize) -> usize
-    requires { (n ≤ 257) × (length samples.old ≡ 1028) }
-    ensures { result ≤ 257 }
-{
-    match d {
-        DeskLine::Sample { rate, frames } => add_sample(samples, n, rate, frames),
-        DeskLine::Region(_) => n,
-        DeskLine::Voice { rate: _ } => n,
-        DeskLine::Block(_) => n,
-        DeskLine::Reset(_) => n,
-        DeskLine::Close(_) => n,
-        DeskLine::Unreadable => n,
-    }
-}
-
-// One line more.
-fn set_line(u: SetUp, buf: &mut [u8], words: &mut [u32], samples: &mut [u32]) -> SetUp
-    requires { SetUpOk u × (u.line < 0x8000_0000_0000_0000) × (length words.old ≡ 100744) × (length samples.old ≡ 1028) }
-    ensures { SetUpOk result × (result.line ≡ u.line + 1) }
-{
-    let f = u.feed;
-    let t = read_line(buf, f);
-    let feed = t.feed;
-    let d = t.line;
-    let regions = regions_after(d, words, u.regions);
-    let count = samples_after(d, samples, u.samples);
-    let first = first_of(t.over, d);
-    SetUp {
-        regions,
-        samples: count,
-        line: u.line + 1,
-        first,
-        feed,
-    }
+    pub end: End,
 }
 
 // Every line up to the first that is no sample and no region.
-pub fn set_up(buf: &mut [u8], feed: Feed, words: &mut [u32], samples: &mut [u32]) -> SetUp
+pub fn set_up(feed: &mut Feed, words: &mut [u32], samples: &mut [u32]) -> SetUp
     requires { (length words.old ≡ 100744) × (length samples.old ≡ 1028) }
     ensures { SetUpOk result }
 {
@@ -331,14 +178,26 @@ pub fn set_up(buf: &mut [u8], feed: Feed, words: &mut [u32], samples: &mut [u32]
         regions: 0,
         samples: 0,
         line: 0,
-        first: First::Nothing,
-        feed,
+        end: End::Over,
     };
-    while u.line < LAST {
-        u = set_line(u, buf, words, samples);
-        let first = u.first;
-        if !goes_on(first) {
+    for line in 1..=LAST {
+        u.line = line;
+        let Some(text) = feed.next_line() else {
             return u;
+        };
+        match read_desk(text) {
+            Some(DeskLine::Sample { rate, frames }) => {
+                u.samples = add_sample(samples, u.samples, rate, frames);
+            }
+            Some(DeskLine::Region(r)) => u.regions = add_region(words, u.regions, r),
+            Some(DeskLine::Voice { rate }) => {
+                u.end = End::Voice(rate);
+                return u;
+            }
+            _ => {
+                u.end = End::Refused;
+                return u;
+            }
         }
     }
     u

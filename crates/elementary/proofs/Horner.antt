@@ -157,9 +157,6 @@ sum-least a b c d s h = omega (arith, mul-le-mul_right d h)
 sum-most : (a b c d s t : ℕ) → a ≤ b * s → c ≤ d * t → a * d + c * b ≤ b * d * (s + t)
 sum-most a b c d s t h k = omega (arith, mul-le-mul_right d h, mul-le-mul_right b k)
 
-enough : (n : ℕ) → n ≤ 90 → 1 + n * 10 ≤ 901
-enough n h = omega arith
-
 four-parts : (t : ℕ) → 2 ^ 1 + 2 ^ (7 + t + 1) ≤ 2 ^ (7 + t + 2)
 four-parts t =
     let a : 2 ^ (7 + t + 1) ≡ 2 ^ t * 256 = pow-add 2 (7 + t) 1 ∙ ap (λ (z : ℕ). z * 2) (pow-add 2 7 t) ∙ omega arith in

@@ -1,5 +1,5 @@
 -- E against powers of two: above 2 ^ k by the slope of its series at 0 at least, and strictly below 2 ^ -126 where the exponent is. Assumes nothing.
-use Rattle.std.proofs.Common.{◌≡◌, ℕ, suc, ◌+◌, ◌-◌, ◌*◌, ◌/◌, ◌%◌, ◌^◌, ◌<◌, ◌≤◌, true, false, List, [], ◌∷◌, ◌++◌, sym, ap, ◌∙◌, subst, inl, inr, le_trans, le_of_eq, lt_of_lt_of_le, mul-le-mul_right, mod-lt, mul_assoc, mul_comm, mul-le-mul, lt_of_mul-lt-mul_right, mul-le-mul_left, mul-lt-mul_of_pos_right, mul-pos, one-mul, pow-suc, lt_of_not-le, div-add-mod', mul-one, le_of_mul-le-mul_right, arith, lit<, lit≤, pow_pos, pow_mono}
+use Rattle.std.proofs.Common.{◌≡◌, ℕ, suc, ◌+◌, ◌*◌, ◌/◌, ◌%◌, ◌^◌, ◌<◌, ◌≤◌, true, false, List, [], ◌∷◌, ◌++◌, sym, ap, ◌∙◌, subst, inl, inr, le_trans, le_of_eq, lt_of_lt_of_le, mul-le-mul_right, mod-lt, mul_assoc, mul_comm, mul-le-mul, lt_of_mul-lt-mul_right, mul-le-mul_left, mul-lt-mul_of_pos_right, mul-pos, one-mul, pow-suc, lt_of_not-le, div-add-mod', mul-one, le_of_mul-le-mul_right, arith, lit<, lit≤, pow_pos, pow_mono}
 use Rattle.elementary.specs.Fraction.{Frac, plus_q, times_q, horner_q, one_q, LeQ, over}
 use Rattle.elementary.specs.Power.{E, coef, coefs, series, ceil}
 use Rattle.elementary.proofs.Truncation.{le_q-refl, plus-mono, times-mono}

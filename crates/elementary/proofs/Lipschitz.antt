@@ -137,9 +137,6 @@ module _ (c e : ℕ) (C : 0 < c) (small : e * 17592186044416 ≤ c) where
       last (S s) (S r) B (first (S s) (S 0) B a at_zero) (second (S c) (S r) B b at_one) (least r)
 
   -- with the powers of two
-  power : (p q x y : ℕ) → x * 137438953472 ≤ y * 137438953473 → x * p * q * 137438953472 ≤ y * p * q * 137438953473
-  power p q x y h = omega (arith, mul-le-mul_right (p * q) h)
-
   earlier : (r s m n : ℕ) → s ≤ c → suc m ≤ n → S s * 2 ^ m * 137438953472 ≤ S r * 2 ^ n * 137438953473
   earlier r s m n l h =
       let w : 2 ^ m * 2 ≤ 2 ^ n = le_trans (le_of_eq (sym (pow-suc 2 m))) (pow_mono {i = suc m} {j = n} h) in

@@ -7,7 +7,6 @@ use Rattle.elementary.specs.Power.{coef, coefs, series, E}
 use Rattle.elementary.proofs.Truncation.{le_q-trans}
 use Rattle.elementary.proofs.Series.{series-pos, series-least, series-most, series-zero, series-mono}
 use Rattle.elementary.proofs.Lipschitz.{same-bot, series-bot, near-two, lt-or-ge}
-use Rattle.elementary.specs.Kernel.{one}
 
 -- the derivative's numerator, over the same denominator
 unfoldable slope : ℕ → ℕ → Frac → List Frac → ℕ

@@ -1,18 +1,13 @@
 -- E at a float that is near a fraction is near E at the fraction. Assumes nothing.
-use Rattle.std.proofs.Common.{◌≡◌, ℕ, ◌+◌, ◌-◌, ◌*◌, ◌/◌, ◌%◌, ◌^◌, ◌<◌, ◌≤◌, false, sym, ap, ◌∙◌, subst, subst₂, le_trans, le_of_eq, mul-le-mul_right, mod-lt, mul_comm, mul-le-mul_left, mul-lt-mul_of_pos_right, mul-pos, div-add-mod', le_of_mul-le-mul_right, arith, lit<, lit≤}
+use Rattle.std.proofs.Common.{◌≡◌, ℕ, ◌+◌, ◌-◌, ◌*◌, ◌/◌, ◌%◌, ◌^◌, ◌<◌, ◌≤◌, false, sym, ap, ◌∙◌, subst, subst₂, le_trans, le_of_eq, mul-le-mul_right, mod-lt, mul_comm, mul-le-mul_left, mul-lt-mul_of_pos_right, mul-pos, div-add-mod', le_of_mul-le-mul_right, arith}
 use native.Mathlib.Nat.{mul-sub}
 use lib.Arith.{digits_div, digits_mod}
-use lib.Ieee.{Float, binary64, of_bits, sub, mul}
-use lib.Ieee.Exact.{HasValue}
-use lib.Ieee.Positive.{num, den, den_pos}
 use Rattle.elementary.specs.Fraction.{LeQ, over}
-use Rattle.elementary.proofs.Ratio.{Le, Within, Near, within-trans, within-sym}
-use Rattle.elementary.proofs.Errors.{upper, lower, big, small}
+use Rattle.elementary.proofs.Ratio.{Le, Within, within-trans, within-sym}
 use Rattle.elementary.specs.Power.{series, E}
 use Rattle.elementary.proofs.Series.{series-mono}
-use Rattle.elementary.specs.Kernel.{kernel}
 use Rattle.elementary.proofs.Lipschitz.{E-cont}
-use Rattle.elementary.proofs.Powers.{E_pos, exp2-up}
+use Rattle.elementary.proofs.Powers.{E_pos}
 
 -- ---- E sees only the value of its fraction
 scaled-div : (a c k : ℕ) → 0 < c → 0 < k → a * k / (c * k) ≡ a / c
@@ -81,15 +76,3 @@ E-near n m A C v d M CC P N K l w =
 
     spread' : (n m C : ℕ) → n ≤ 129 * m → n * C ≤ 129 * (m * C)
     spread' n m C h = omega (arith, mul-le-mul_right C h)
-
--- ---- the program's value at y, against E at A / C
-pub exp-up : (y k : Float) (A C : ℕ) → 0 < C → Near (upper ^ 2) (lower ^ 2) y A C → den y ≤ 2 ^ 250 → num y ≤ 128 * den y → A ≤ 129 * C → HasValue k false (num y / den y) 1
-    → Near (big * 137438953473) (small * 137438953472) (mul binary64 (kernel (sub binary64 y k)) (of_bits binary64 ((num y / den y + 1023) * 4503599627370496))) (E false A C).top (E false A C).bot
-exp-up y k A C CC h f n K v =
-    let z = mul binary64 (kernel (sub binary64 y k)) (of_bits binary64 ((num y / den y + 1023) * 4503599627370496)) in
-    let q = exp2-up y k h.sign f n v in
-    let e = E-near (num y) (den y) A C (lower ^ 2) (upper ^ 2 - lower ^ 2) (den_pos y) CC (lit< tt) (le_trans n (mul-le-mul_right (den y) (lit≤ {m = 128} {n = 129} tt))) K (lit≤ tt) h.within in
-    record {
-      sign = q.sign;
-      within = within-trans big small 137438953473 137438953472 (num z) (den z) (E false (num y) (den y)).top (E false (num y) (den y)).bot (E false A C).top (E false A C).bot (E_pos false (num y) (den y) (den_pos y)) q.within e;
-    }

@@ -1,7 +1,7 @@
 -- E(y), 2 ^ y by its series, and what the program computes for it. Assumes nothing.
 use Rattle.std.proofs.Common.{◌≡◌, ℕ, zero, suc, ◌+◌, ◌-◌, ◌*◌, ◌/◌, ◌%◌, ◌^◌, ◌<◌, ◌≤◌, Bool, true, false, cond, T, ltb, ◌⊎◌, pos, sym, refl, ap, ◌∙◌, subst, ap₂, inl, inr, le_trans, le_of_eq, le_refl, le_of_suc-le-suc, le_of_lt, mul-le-mul_right, mod-lt, mod-eq_of_lt, mul_assoc, mul_comm, eq-zero-or-pos, mul-le-mul, eq-or-lt_of_le, mul-le-mul_left, mul-pos, one-mul, pow-suc, div-add-mod', mul-one, mul_right_comm, div-mul-le_self, le_of_mul-le-mul_right, arith, lit<, lit≤, ltb→lt, pow_pos, pow_mono, pow-add}
 use native.Mathlib.Nat.{mul-sub, div-eq_of_lt}
-use lib.Ieee.{Float, Format, binary32, binary64, of_bits, of_int, to_unsigned, round, sub, mul, sum, up}
+use lib.Ieee.{Float, Format, binary32, binary64, of_bits, of_int, to_unsigned, round, sub, mul, sum}
 use lib.Ieee.Exact.{HasValue}
 use lib.Ieee.Positive.{num, den, den_pos, value→cross}
 use Rattle.elementary.specs.Fraction.{Frac, LeQ, one_q}

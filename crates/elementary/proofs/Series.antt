@@ -10,7 +10,7 @@ use Rattle.elementary.proofs.Errors.{errors, upper, lower, rest}
 use Rattle.elementary.proofs.Truncation.{le_q-trans, horner-mono, horner-pos, Pos, cut-within, least-one}
 use Rattle.elementary.specs.Kernel.{one, floats, kernel}
 use Rattle.elementary.proofs.Horner.{Coef, Coefs, Arg, Val, horner-near}
-use Rattle.elementary.specs.Power.{coef, coefs, series, E}
+use Rattle.elementary.specs.Power.{coef, coefs, series}
 
 -- ---- the tests that the checker computes
 abbrev pub coef-ok : Float → Frac → Bool

@@ -43,9 +43,6 @@ cut_below X q [] r rs = more q.top q.bot (times_q X (horner_q X r rs)).top (time
 cut_below X q (p ∷ qs) r rs = plus-mono q q (times_q X (horner_q X p qs)) (times_q X (horner_q X p (qs ++ (r ∷ rs)))) (le_q-refl q) (times-mono X X (horner_q X p qs) (horner_q X p (qs ++ (r ∷ rs))) (le_q-refl X) (cut_below X p qs r rs))
 
 -- ---- at most t less, where the terms that are cut are at most t at the argument
-at_one : (a b c d : ℕ) → a ≤ b → a * c * d ≤ c * (b * d)
-at_one a b c d h = omega (arith, mul-le-mul_right (c * d) h)
-
 shrink : (X t p : Frac) → X.top ≤ X.bot → LeQ p t → LeQ (times_q X p) t
 shrink X t p x h = omega (arith, mul-le-mul x h)
 

@@ -4,8 +4,14 @@ ghost use Rattle.std.specs.Prelude.{◌≡◌};
 ghost use Rattle.elementary.specs.Hyperbolic.{Sinh};
 ghost use Rattle.elementary.specs.Functions.{sinh_of};
 
-use crate::power::{LOG2_E, power_down, power_up};
+use crate::power::Exponent;
 use exact::format::narrow;
+use std::f64::consts::LOG2_E;
+
+// 2^-12, and the largest single whose hyperbolic sine is at most 2^127.
+const FIRST: f32 = 0.000244140625;
+
+const LAST: f32 = 88.72283172607422;
 
 // sinh x from 2^-12 up; every smaller argument gives a NaN.
 pub fn sinh(x: f32) -> f32
@@ -14,12 +20,14 @@ pub fn sinh(x: f32) -> f32
     if x != x {
         return x;
     }
-    if x < 0.000244140625 {
-        return 0.0 / 0.0;
+    if x < FIRST {
+        return f32::NAN;
     }
-    if x > 88.72283172607422 {
-        return 1.0 / 0.0;
+    if x > LAST {
+        return f32::INFINITY;
     }
-    let y = x as f64 * LOG2_E;
-    narrow((power_up(y) - power_down(y)) * 0.5)
+    let size = Exponent {
+        y: x as f64 * LOG2_E,
+    };
+    narrow((size.up() - size.down()) * 0.5)
 }

@@ -3,5 +3,6 @@
 
 pub mod hyperbolic;
 pub mod log;
+mod polynomial;
 pub mod power;
 pub mod trig;

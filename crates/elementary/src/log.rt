@@ -4,8 +4,37 @@ ghost use Rattle.std.specs.Prelude.{◌≡◌, ◌*◌, ◌<◌, ◌≤◌};
 ghost use Rattle.elementary.specs.Logarithm.{Log2, Ranged, unit, fixed_at, power_at, log_series, units_past128, guess_of, root_of, fraction_of, nearest_sum, positive_of};
 ghost use Rattle.elementary.specs.Functions.{log2_of};
 
+use crate::polynomial::Polynomial;
 use crate::power::series;
 use exact::format::narrow;
+
+// The fraction of a logarithm counts in units of 2^-45. The search by halving ends at 2^25 of them.
+const UNIT: u64 = 1 << 45;
+
+const NEAR: u64 = 1 << 25;
+
+// The guess is taken where the series is within this factor, 1 + 2^-26, of the number.
+const SLACK: f64 = 1.0000000149011612;
+
+// Patterns of doubles: 1, 128, and the lowest digit of the exponent.
+const ONE: u64 = 0x3ff0_0000_0000_0000;
+
+const ONE_TWENTY_EIGHT: u64 = 0x4060_0000_0000_0000;
+
+const EXPONENT: u64 = 1 << 52;
+
+// 2 / (k ln 2) for the odd k from 13 down to 1.
+const LOG_SERIES: Polynomial<6> = Polynomial {
+    highest: 0.22195308321368667,
+    lower: [
+        0.2623081892525388,
+        0.3205988979753252,
+        0.4121985831111324,
+        0.5770780163555853,
+        0.9617966939259756,
+        2.8853900817779268,
+    ],
+};
 
 // a / 2^45
 fn fixed(a: u64) -> f64
@@ -25,18 +54,12 @@ fn power_at(k: u64) -> f64
 
 // 128 and about log2 of an m from 1 to 2: the series of log2 (m / one) in (m - one) / (m + one) through the 13th power, for a `one`
 // of 1 or 2.
+#[tactic(auto, unfolding(crate::specs::Kernel::horner_f, crate::specs::Logarithm::log_series))]
 fn log_series(one: f64, m: f64) -> f64
     ensures { result ≡ log_series one m }
 {
     let s = (m - one) / (m + one);
-    let z = s * s;
-    let sum = 2.8853900817779268
-        + z * (0.9617966939259756
-            + z * (0.5770780163555853
-                + z * (0.4121985831111324
-                    + z * (0.3205988979753252
-                        + z * (0.2623081892525388 + z * 0.22195308321368667)))));
-    s * sum + (one + 127.0)
+    s * LOG_SERIES.at(s * s) + (one + 127.0)
 }
 
 // y - 128 in units of 2^-45, for a y from 128 to 129: there the last digit of a double is one unit, so the bits count them.
@@ -46,8 +69,8 @@ fn units_past_128(y: f64) -> u64
     if y != y {
         return 0;
     }
-    let k = std::num::wrapping_sub_u64(f64::to_bits(y), 4638707616191610880);
-    if k < 35184372088832 { k } else { 0 }
+    let k = std::num::wrapping_sub_u64(f64::to_bits(y), ONE_TWENTY_EIGHT);
+    if k < UNIT { k } else { 0 }
 }
 
 // About log2 of m in units of 2^-45. `fraction` tests it.
@@ -58,13 +81,13 @@ fn guess(m: f64) -> u64
     units_past_128(log_series(one, m))
 }
 
-// log2 of m in units of 2^-45, by halving: for an m whose guess fails the test.
+// log2 of m in units of 2^-45, by halving: for an m whose guess fails the test. The width, and no index, is what counts down.
 fn root(m: f64) -> u64
     ensures { result ≡ root_of m }
 {
     let mut k: u64 = 0;
-    let mut w: u64 = 35184372088832;
-    while 33554432 < w {
+    let mut w = UNIT;
+    while NEAR < w {
         let half = w / 2;
         let n = k + half;
         if m < power_at(n) {
@@ -83,7 +106,7 @@ fn fraction(m: f64) -> u64
 {
     let k = guess(m);
     let v = power_at(k);
-    if m * 1.0000000149011612 < v || v * 1.0000000149011612 < m {
+    if m * SLACK < v || v * SLACK < m {
         return root(m);
     }
     k
@@ -91,15 +114,15 @@ fn fraction(m: f64) -> u64
 
 // The single nearest to n - 1023 + k / 2^45.
 fn nearest_sum(n: u64, k: u64) -> f32
-    requires fact_1 { 874 ≤ n }
-    requires fact_2 { n ≤ 1150 }
-    requires fact_3 { k < unit }
+    requires least { 874 ≤ n }
+    requires most { n ≤ 1150 }
+    requires part { k < unit }
     ensures { result ≡ nearest_sum n k }
 {
     if n < 1023 {
-        -narrow(fixed((1023 - n) * 35184372088832 - k))
+        -narrow(fixed((1023 - n) * UNIT - k))
     } else {
-        narrow(fixed((n - 1023) * 35184372088832 + k))
+        narrow(fixed((n - 1023) * UNIT + k))
     }
 }
 
@@ -109,8 +132,8 @@ fn positive(x: f64) -> f32
     ensures { result ≡ positive_of x }
 {
     let bits: u64 = f64::to_bits(x);
-    let m = f64::from_bits(4607182418800017408 + bits % 4503599627370496);
-    nearest_sum(bits / 4503599627370496, fraction(m))
+    let m = f64::from_bits(ONE + bits % EXPONENT);
+    nearest_sum(bits / EXPONENT, fraction(m))
 }
 
 // log2 x.
@@ -121,13 +144,13 @@ pub fn log2(x: f32) -> f32
         return x;
     }
     if x < 0.0 {
-        return 0.0 / 0.0;
+        return f32::NAN;
     }
-    if x == 1.0 / 0.0 {
-        return 0.0 / 0.0;
+    if x == f32::INFINITY {
+        return f32::NAN;
     }
     if x > 0.0 {
         return positive(x as f64);
     }
-    -1.0 / 0.0
+    f32::NEG_INFINITY
 }

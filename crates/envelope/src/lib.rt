@@ -2,14 +2,14 @@
 #![tactic(auto)]
 
 ghost use Rattle.std.specs.Prelude.{◌≡◌};
-ghost use Rattle.envelope.specs.Envelope.{env_at, fadeout_step, done_step, is_released, is_done, is_delaying, delay_left, released, lin_rate, exp_rate, seconds_to_samples, delay_sum, runs_freely, release_timed, started, release_step, sustain_step, decay_step, hold_step, attack_stage_step, delay_step, env_next};
+ghost use Rattle.envelope.specs.Envelope.{env_at, fadeout_step, done_step, is_released, is_done, delay_left, released, lin_rate, exp_rate, seconds_to_samples, delay_sum, runs_freely, release_timed, started, release_step, sustain_step, decay_step, hold_step, attack_stage_step, delay_step, env_next};
 
 use elementary::power::exp;
 use exact::cast::f32_to_i64;
 use exact::order::{clamp_f32, max_f32};
 use program::region::Envelope;
 
-#[derive(Clone, Copy)]
+#[derive(Clone, Copy, PartialEq, Eq)]
 pub enum EgState {
     Delay,
     Attack,
@@ -37,6 +37,7 @@ pub struct Env {
     pub sample_rate: f32,
 }
 
+// A frame's value, and the envelope after it.
 #[derive(Drop)]
 pub struct EnvStep {
     pub value: f32,
@@ -44,26 +45,20 @@ pub struct EnvStep {
 }
 
 impl Env {
-    // The same envelope at another state, value and transition.
+    // The same envelope at another state, value and transition. The steps go by this and by a copy that they change: with `..self` in all
+    // of them and in `release` a frame took up to 1 % more instructions and 2 to 5 % more time (Hermite, two biquads).
     fn at(self, s: EgState, v: f32, d: f32) -> Env
         ensures { result ≡ env_at s v d self }
     {
         Env {
             state: s,
             value: v,
-            start: self.start,
-            delay: self.delay,
-            attack_step: self.attack_step,
-            hold: self.hold,
-            decay_rate: self.decay_rate,
-            sustain: self.sustain,
-            release_rate: self.release_rate,
             transition_delta: d,
-            free_running: self.free_running,
-            sample_rate: self.sample_rate,
+            ..self
         }
     }
 
+    #[tactic(auto, unfolding(crate::specs::Envelope::done_step))]
     fn done_step(self) -> EnvStep
         ensures { result ≡ done_step self }
     {
@@ -73,6 +68,7 @@ impl Env {
         }
     }
 
+    #[tactic(auto, unfolding(crate::specs::Envelope::fadeout_step))]
     fn fadeout_step(self) -> EnvStep
         ensures { result ≡ fadeout_step self }
     {
@@ -86,6 +82,7 @@ impl Env {
             .done_step()
     }
 
+    #[tactic(auto, unfolding(crate::specs::Envelope::release_step))]
     fn release_step(self) -> EnvStep
         ensures { result ≡ release_step self }
     {
@@ -99,6 +96,7 @@ impl Env {
         self.at(EgState::Fadeout, self.value, d).fadeout_step()
     }
 
+    #[tactic(auto, unfolding(crate::specs::Envelope::sustain_step))]
     fn sustain_step(self) -> EnvStep
         ensures { result ≡ sustain_step self }
     {
@@ -119,6 +117,7 @@ impl Env {
         }
     }
 
+    #[tactic(auto, unfolding(crate::specs::Envelope::decay_step))]
     fn decay_step(self) -> EnvStep
         ensures { result ≡ decay_step self }
     {
@@ -133,6 +132,7 @@ impl Env {
         self.at(EgState::Sustain, m, d).sustain_step()
     }
 
+    #[tactic(auto, unfolding(crate::specs::Envelope::hold_step))]
     fn hold_step(self) -> EnvStep
         ensures { result ≡ hold_step self }
     {
@@ -149,6 +149,7 @@ impl Env {
             .decay_step()
     }
 
+    #[tactic(auto, unfolding(crate::specs::Envelope::attack_stage_step))]
     fn attack_step(self) -> EnvStep
         ensures { result ≡ attack_stage_step self }
     {
@@ -162,6 +163,7 @@ impl Env {
             .hold_step()
     }
 
+    #[tactic(auto, unfolding(crate::specs::Envelope::delay_step))]
     fn delay_step(self) -> EnvStep
         ensures { result ≡ delay_step self }
     {
@@ -179,11 +181,11 @@ impl Env {
             .attack_step()
     }
 
+    #[tactic(auto, unfolding(crate::specs::Envelope::env_next))]
     pub fn next(self) -> EnvStep
         ensures { result ≡ env_next self }
     {
-        let s = self.state;
-        match s {
+        match self.state {
             EgState::Delay => self.delay_step(),
             EgState::Attack => self.attack_step(),
             EgState::Hold => self.hold_step(),
@@ -199,61 +201,34 @@ impl Env {
     pub fn done(self) -> bool
         ensures { result ≡ is_done self.state }
     {
-        let s = self.state;
-        match s {
-            EgState::Delay => false,
-            EgState::Attack => false,
-            EgState::Hold => false,
-            EgState::Decay => false,
-            EgState::Sustain => false,
-            EgState::Release => false,
-            EgState::Fadeout => false,
-            EgState::Done => true,
-        }
+        self.state == EgState::Done
     }
 
     // The release has begun.
     pub fn released(self) -> bool
         ensures { result ≡ is_released self.state }
     {
-        let s = self.state;
-        match s {
-            EgState::Delay => false,
-            EgState::Attack => false,
-            EgState::Hold => false,
-            EgState::Decay => false,
-            EgState::Sustain => false,
-            EgState::Release => true,
-            EgState::Fadeout => true,
-            EgState::Done => true,
-        }
-    }
-
-    fn delaying(self) -> bool
-        ensures { result ≡ is_delaying self.state }
-    {
-        let s = self.state;
-        match s {
-            EgState::Delay => true,
-            EgState::Attack => false,
-            EgState::Hold => false,
-            EgState::Decay => false,
-            EgState::Sustain => false,
-            EgState::Release => false,
-            EgState::Fadeout => false,
-            EgState::Done => false,
-        }
+        matches!(
+            self.state,
+            EgState::Release | EgState::Fadeout | EgState::Done
+        )
     }
 
     // How many frames of the delay are left.
+    #[tactic(auto, unfolding(crate::specs::Envelope::delay_left))]
     pub fn remaining_delay(self) -> i64
         ensures { result ≡ delay_left self }
     {
-        if self.delaying() { self.delay } else { 0 }
+        if self.state == EgState::Delay {
+            self.delay
+        } else {
+            0
+        }
     }
 
     // An envelope at its start: `extra_delay` is the region's own delay in frames, and the oscillator of a silent one-shot
     // region releases itself.
+    #[tactic(auto, unfolding(crate::specs::Envelope::started))]
     pub fn new(e: Envelope, extra_delay: i64, sr: f32, oscillator_one_shot: bool) -> Env
         ensures { result ≡ started e extra_delay sr oscillator_one_shot }
     {
@@ -268,20 +243,22 @@ impl Env {
         Env {
             state: EgState::Delay,
             value: start,
-            start: start,
-            delay: delay,
-            attack_step: attack_step,
-            hold: hold,
-            decay_rate: decay_rate,
-            sustain: sustain,
-            release_rate: release_rate,
+            start,
+            delay,
+            attack_step,
+            hold,
+            decay_rate,
+            sustain,
+            release_rate,
             transition_delta: 0.0,
-            free_running: free_running,
+            free_running,
             sample_rate: sr,
         }
     }
 
     // A release that has begun goes on at the new rate too.
+    // A copy that is changed: with `..self` here and in `release`, a frame took 0.6 to 1.5 % more instructions.
+    #[tactic(auto, unfolding(crate::specs::Envelope::release_timed))]
     pub fn set_release_time(self, t: f32) -> Env
         ensures { result ≡ release_timed t self }
     {
@@ -292,6 +269,7 @@ impl Env {
     }
 
     // A release that has begun goes on as it is.
+    #[tactic(auto, unfolding(crate::specs::Envelope::released))]
     pub fn release(self) -> Env
         ensures { result ≡ released self }
     {
@@ -303,6 +281,7 @@ impl Env {
 }
 
 // The factor of an exponential decay or release of t seconds, at least 6 ms: 0 where there is none.
+#[tactic(auto, unfolding(crate::specs::Envelope::exp_rate))]
 pub fn exp_rate(t: f32, sr: f32) -> f32
     ensures { result ≡ exp_rate t sr }
 {
@@ -314,6 +293,7 @@ pub fn exp_rate(t: f32, sr: f32) -> f32
 }
 
 // The step of a linear attack of t seconds: 1 where there is none.
+#[tactic(auto, unfolding(crate::specs::Envelope::lin_rate))]
 pub fn lin_rate(t: f32, sr: f32) -> f32
     ensures { result ≡ lin_rate t sr }
 {
@@ -321,6 +301,7 @@ pub fn lin_rate(t: f32, sr: f32) -> f32
 }
 
 // How many whole frames t seconds are: none where t is not above 0.
+#[tactic(auto, unfolding(crate::specs::Envelope::seconds_to_samples))]
 pub fn secs_to_samples(t: f32, sr: f32) -> i64
     ensures { result ≡ seconds_to_samples t sr }
 {
@@ -328,27 +309,21 @@ pub fn secs_to_samples(t: f32, sr: f32) -> i64
 }
 
 // Two delays after each other. One below 0 counts as none, and the sum rests at the largest number of frames.
+#[tactic(auto, unfolding(crate::specs::Envelope::delay_sum))]
 fn delay_sum(a: i64, b: i64) -> i64
     ensures { result ≡ delay_sum a b }
 {
     if a <= 0 {
-        return b;
+        b
+    } else {
+        a.saturating_add(b.max(0))
     }
-    if b <= 0 {
-        return a;
-    }
-    if 9223372036854775807 - b < a {
-        return 9223372036854775807;
-    }
-    a + b
 }
 
 // Whether the envelope leaves its sustain stage by itself.
+#[tactic(auto, unfolding(crate::specs::Envelope::runs_freely))]
 fn runs_freely(sustain: f32, oscillator_one_shot: bool) -> bool
     ensures { result ≡ runs_freely sustain oscillator_one_shot }
 {
-    if sustain <= 0.0032 {
-        return true;
-    }
-    oscillator_one_shot
+    sustain <= 0.0032 || oscillator_one_shot
 }

@@ -1,10 +1,9 @@
 -- What starting regions changes and what it leaves, for the account of a whole run. Assumes nothing.
-use Rattle.std.proofs.Common.{◌≡◌, ℕ, ◌+◌, ◌%◌, ◌^◌, ◌<◌, ◌≤◌, Bool, true, false, ltb, leb, List, [], ◌∷◌, ◌++◌, length, refl, ap, ◌∙◌, arith, length-append, length-set, ltb-true, le-leb, leb-false}
+use Rattle.std.proofs.Common.{◌≡◌, ℕ, ◌+◌, ◌%◌, ◌^◌, ◌<◌, ◌≤◌, Bool, true, false, ltb, leb, List, [], ◌∷◌, ◌++◌, length, refl, ap, ◌∙◌, arith, length-append, length-set, ltb-true, le-leb, leb-false, None, Option, Some, cond}
 use borrow.Author.Tests.{lt-leb}
 use Rattle.player.specs.Start.{started_player}
 use Rattle.players.specs.Seats.{sounding}
 use Rattle.players.proofs.Seating.{sounding-seated}
-use Rattle.session.specs.Lists.{pick}
 use Rattle.session.specs.Records.{entered}
 use Rattle.session.specs.Rules.{start_marks, enter}
 use Rattle.session.specs.State.{view, serial_up}
@@ -14,8 +13,6 @@ use Rattle.session.specs.declared.Start.{Start}
 use Rattle.session.proofs.Laws.{enter-room}
 use Rattle.session.proofs.Relist.{view-few, view-relist, relist-size}
 use Rattle.session.proofs.Yield.{length-marks}
-use Rattle.note.specs.declared.MaybeNote.{MaybeNote}
-use Rattle.note.specs.declared.MaybeNote.TheVariants.{Absent, Present}
 use Rattle.note.specs.declared.NoteState.{NoteState}
 use Rattle.events.specs.declared.SampleVoice.{SampleVoice}
 use Rattle.events.specs.declared.Both.{Both}
@@ -31,7 +28,7 @@ marks-few st s = omega (arith, length-marks st (view s), view-few s)
 enter-few : (r : PlayerRecord) (rs : List PlayerRecord) → length rs ≤ 512 → length (enter r rs) ≤ 512
 unfolding enter
 enter-few r rs h = by-case (ltb (length rs) 512) refl where
-  by-case : (t : Bool) → ltb (length rs) 512 ≡ t → length (pick t (rs ++ (r ∷ [])) rs) ≤ 512
+  by-case : (t : Bool) → ltb (length rs) 512 ≡ t → length (cond t (rs ++ (r ∷ [])) rs) ≤ 512
   by-case true e = omega (arith, ltb-true (length rs) 512 e, length-append rs (r ∷ []))
   by-case false e = h
 
@@ -121,23 +118,23 @@ module _ (k : Kit) (n : NoteState) (c : Cause) (b : Both) (i : ℕ) where
 
   pub is-dropped : 32 ≤ b.voice.players.count → started_region k n c b i ≡ dropped
   unfolding started_region
-  is-dropped h = ap (λ (t : Bool). pick t dropped joined) (le-leb 32 b.voice.players.count h)
+  is-dropped h = ap (λ (t : Bool). cond t dropped joined) (le-leb 32 b.voice.players.count h)
 
   pub is-joined : b.voice.players.count < 32 → started_region k n c b i ≡ joined
   unfolding started_region
-  is-joined h = ap (λ (t : Bool). pick t dropped joined) (lt-leb 32 b.voice.players.count h)
+  is-joined h = ap (λ (t : Bool). cond t dropped joined) (lt-leb 32 b.voice.players.count h)
 
   pub region-session : SessionKept b.session (started_region k n c b i).session
   unfolding started_region marked_by entered_by
   region-session = by-case (leb 32 b.voice.players.count) where
-    by-case : (t : Bool) → SessionKept b.session (pick t dropped joined).session
+    by-case : (t : Bool) → SessionKept b.session (cond t dropped joined).session
     by-case true = record { seq = refl; voices = refl; serial = refl; held = refl }
     by-case false = record { seq = refl; voices = refl; serial = refl; held = refl }
 
   pub region-voice : VoiceKept b.voice (started_region k n c b i).voice
   unfolding started_region joined_by
   region-voice = by-case (leb 32 b.voice.players.count) where
-    by-case : (t : Bool) → VoiceKept b.voice (pick t dropped joined).voice
+    by-case : (t : Bool) → VoiceKept b.voice (cond t dropped joined).voice
     by-case true =
         record { voice = refl; rate = refl; program = refl; gate-prev = refl; gate-held = refl; note = refl; started = refl }
     by-case false =
@@ -169,7 +166,7 @@ module _ (k : Kit) (n : NoteState) (c : Cause) (b : Both) (i : ℕ) where
     pub region-size : length (started_region k n c b i).session.players ≡ 512
     unfolding started_region
     region-size = by-case (leb 32 b.voice.players.count) where
-      by-case : (t : Bool) → length (pick t dropped joined).session.players ≡ 512
+      by-case : (t : Bool) → length (cond t dropped joined).session.players ≡ 512
       by-case true = size-marked _ b.session size
       by-case false = size-entered _ (marked_by (start_in k n c b.voice i) b.session) (size-marked _ b.session size) _
 
@@ -198,14 +195,14 @@ module _ (k : Kit) (n : NoteState) (c : Cause) (b : Both) (i : ℕ) where
   pub region-places : length b.voice.players.players ≡ 32 → length (started_region k n c b i).voice.players.players ≡ 32
   unfolding started_region joined_by
   region-places size = by-case (leb 32 b.voice.players.count) where
-    by-case : (t : Bool) → length (pick t dropped joined).voice.players.players ≡ 32
+    by-case : (t : Bool) → length (cond t dropped joined).voice.players.players ≡ 32
     by-case true = size
     by-case false = length-set b.voice.players.players b.voice.players.count (player_of k n c b.voice i) ∙ size
 
   pub region-seats : b.voice.players.count ≤ 32 → (started_region k n c b i).voice.players.count ≤ 32
   unfolding started_region joined_by
   region-seats h = by-case (leb 32 b.voice.players.count) refl where
-    by-case : (t : Bool) → leb 32 b.voice.players.count ≡ t → (pick t dropped joined).voice.players.count ≤ 32
+    by-case : (t : Bool) → leb 32 b.voice.players.count ≡ t → (cond t dropped joined).voice.players.count ≤ 32
     by-case true e = h
     by-case false e = omega (arith, leb-false 32 b.voice.players.count e)
 
@@ -272,38 +269,38 @@ module _ (k : Kit) (m at : ℕ) (b : Both) where
   pub dispatched-voice : VoiceKept b.voice (dispatched_release k m at b).voice
   unfolding dispatched_release
   dispatched-voice = by-case b.voice.note where
-    by-case : (x : MaybeNote) → VoiceKept b.voice (fired_for k m at x b).voice
-    by-case Absent = voice-same b.voice
-    by-case (Present n) = releases-voice n
+    by-case : (x : Option NoteState) → VoiceKept b.voice (fired_for k m at x b).voice
+    by-case None = voice-same b.voice
+    by-case (Some n) = releases-voice n
 
   pub dispatched-session : (t : Session) → t ≡ (dispatched_release k m at b).session
       → (t.seq ≡ b.session.seq) × (t.voices ≡ b.session.voices) × (t.held ≡ b.session.held)
   unfolding dispatched_release
   dispatched-session t e = by-case b.voice.note e where
-    by-case : (x : MaybeNote) → t ≡ (fired_for k m at x b).session
+    by-case : (x : Option NoteState) → t ≡ (fired_for k m at x b).session
         → (t.seq ≡ b.session.seq) × (t.voices ≡ b.session.voices) × (t.held ≡ b.session.held)
-    by-case Absent f = (ap (λ (s : Session). s.seq) f, ap (λ (s : Session). s.voices) f, ap (λ (s : Session). s.held) f)
-    by-case (Present n) f =
+    by-case None f = (ap (λ (s : Session). s.seq) f, ap (λ (s : Session). s.voices) f, ap (λ (s : Session). s.held) f)
+    by-case (Some n) f =
         let y = releases-session n in
         (ap (λ (s : Session). s.seq) f ∙ y.seq, ap (λ (s : Session). s.voices) f ∙ y.voices, ap (λ (s : Session). s.held) f ∙ y.held)
 
   pub dispatched-size : length b.session.players ≡ 512 → length (dispatched_release k m at b).session.players ≡ 512
   unfolding dispatched_release
   dispatched-size size = by-case b.voice.note where
-    by-case : (x : MaybeNote) → length (fired_for k m at x b).session.players ≡ 512
-    by-case Absent = size
-    by-case (Present n) = releases-size n size
+    by-case : (x : Option NoteState) → length (fired_for k m at x b).session.players ≡ 512
+    by-case None = size
+    by-case (Some n) = releases-size n size
 
   pub dispatched-places : length b.voice.players.players ≡ 32 → length (dispatched_release k m at b).voice.players.players ≡ 32
   unfolding dispatched_release
   dispatched-places size = by-case b.voice.note where
-    by-case : (x : MaybeNote) → length (fired_for k m at x b).voice.players.players ≡ 32
-    by-case Absent = size
-    by-case (Present n) = releases-places n size
+    by-case : (x : Option NoteState) → length (fired_for k m at x b).voice.players.players ≡ 32
+    by-case None = size
+    by-case (Some n) = releases-places n size
 
   pub dispatched-seats : b.voice.players.count ≤ 32 → (dispatched_release k m at b).voice.players.count ≤ 32
   unfolding dispatched_release
   dispatched-seats h = by-case b.voice.note where
-    by-case : (x : MaybeNote) → (fired_for k m at x b).voice.players.count ≤ 32
-    by-case Absent = h
-    by-case (Present n) = releases-seats n h
+    by-case : (x : Option NoteState) → (fired_for k m at x b).voice.players.count ≤ 32
+    by-case None = h
+    by-case (Some n) = releases-seats n h

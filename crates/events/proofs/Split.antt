@@ -1,6 +1,6 @@
 -- The starts of an event part in two: the session's, which need of the voice no more than its id, its next slot and how many players it
 -- has, and the voice's, which need nothing of the session. Assumes nothing.
-use Rattle.std.proofs.Common.{◌≡◌, ℕ, ◌+◌, ◌%◌, ◌^◌, ◌<◌, ◌≤◌, Bool, true, false, ltb, leb, List, [], ◌∷◌, ◌++◌, map, length, get_or, take, set, sym, refl, ap, ◌∙◌, le_antisymm, add-one, arith, take-suc, take-suc-set, ltb-false, ltb-true, le-leb}
+use Rattle.std.proofs.Common.{◌≡◌, ℕ, ◌+◌, ◌%◌, ◌^◌, ◌<◌, ◌≤◌, Bool, true, false, ltb, leb, List, [], ◌∷◌, ◌++◌, map, length, get_or, take, set, sym, refl, ap, ◌∙◌, le_antisymm, add-one, arith, take-suc, take-suc-set, ltb-false, ltb-true, le-leb, cond}
 use mathlib.Core.List.{map-append, foldl}
 use borrow.Author.Tests.{lt-leb}
 use Rattle.player.specs.declared.Player.{Player}
@@ -8,7 +8,7 @@ use Rattle.players.specs.declared.Players.{Players}
 use Rattle.players.specs.Seats.{seated}
 use Rattle.program.specs.Region.{region_at}
 use Rattle.program.specs.declared.region.Region.{Region}
-use Rattle.session.specs.Lists.{pick, used_of}
+use Rattle.session.specs.Lists.{used_of}
 use Rattle.session.specs.Records.{entered}
 use Rattle.session.specs.Rules.{start_marks, start_one}
 use Rattle.session.specs.State.{view, relist, Starting, start_with, start_next, started_many}
@@ -84,13 +84,13 @@ module _ (k : Kit) (n : NoteState) (c : Cause) where
 -- ---- the voice's part
 
 abbrev pub started_voice : Kit → NoteState → Cause → SampleVoice → ℕ → SampleVoice
-started_voice k n c v i = pick (leb 32 v.players.count) (dropped_one v) (joined_by (player_of k n c v i) v)
+started_voice k n c v i = cond (leb 32 v.players.count) (dropped_one v) (joined_by (player_of k n c v i) v)
 
 module _ (k : Kit) (n : NoteState) (c : Cause) where
   voice-one : (b : Both) (i : ℕ) → (started_region k n c b i).voice ≡ started_voice k n c b.voice i
   unfolding started_region
   voice-one b i = picked (leb 32 b.voice.players.count) _ _ where
-    picked : (t : Bool) (x y : Both) → (pick t x y).voice ≡ pick t x.voice y.voice
+    picked : (t : Bool) (x y : Both) → (cond t x y).voice ≡ cond t x.voice y.voice
     picked true x y = refl
     picked false x y = refl
 

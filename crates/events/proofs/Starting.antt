@@ -1,17 +1,14 @@
 -- What the tests of a start tell. Assumes nothing.
-use Rattle.std.proofs.Common.{◌≡◌, ℕ, ◌≤◌, Bool, false, ◌≢◌, List, take, sym, ap, ◌∙◌, le_trans, eq-eqb, ne_eqb}
+use Rattle.std.proofs.Common.{◌≡◌, ℕ, ◌≤◌, Bool, false, ◌≢◌, List, take, sym, ap, ◌∙◌, le_trans, eq-eqb, ne_eqb, None, Option, Some, cond}
 use lib.Ieee.{Float}
-use Rattle.gain.specs.declared.Curve.TheVariants.{NoCurve, At}
 use Rattle.program.specs.Curve.{velcurve_at}
 use Rattle.program.specs.declared.region.Region.{Region}
-use Rattle.session.specs.Lists.{pick, used_of}
+use Rattle.session.specs.Lists.{used_of}
 use Rattle.session.specs.State.{serial_up}
 use Rattle.session.specs.declared.Session.{Session}
 use Rattle.exact.specs.Random.{drawn}
 use Rattle.note.specs.Choice.{chosen_off, chosen_from, chosen_list}
 use Rattle.note.specs.declared.Chosen.{Chosen}
-use Rattle.note.specs.declared.MaybeNote.{MaybeNote}
-use Rattle.note.specs.declared.MaybeNote.TheVariants.{Absent, Present}
 use Rattle.note.specs.declared.NoteState.{NoteState}
 use Rattle.note.proofs.Laws.{chosen-list, off-few}
 use Rattle.events.specs.declared.SampleVoice.{SampleVoice}
@@ -22,14 +19,14 @@ use Rattle.events.specs.Start.{curve_for, started_all, held_for, release_cause, 
 
 -- the region's velocity curve
 module _ (ws : List ℕ) (x : Region) (i vel : ℕ) where
-  pub curve-none : x.level.velcurve_count ≡ 0 → NoCurve ≡ curve_for ws x i vel
+  pub curve-none : x.level.velcurve_count ≡ 0 → None ≡ curve_for ws x i vel
   unfolding curve_for
-  curve-none h = sym (ap (λ (t : Bool). pick t NoCurve (At (velcurve_at ws i vel))) (eq-eqb x.level.velcurve_count 0 h))
+  curve-none h = sym (ap (λ (t : Bool). cond t None (Some (velcurve_at ws i vel))) (eq-eqb x.level.velcurve_count 0 h))
 
-  pub curve-some : (g : Float) → x.level.velcurve_count ≢ 0 → g ≡ velcurve_at ws i vel → At g ≡ curve_for ws x i vel
+  pub curve-some : (g : Float) → x.level.velcurve_count ≢ 0 → g ≡ velcurve_at ws i vel → Some g ≡ curve_for ws x i vel
   unfolding curve_for
   curve-some g h e =
-      ap At e ∙ sym (ap (λ (t : Bool). pick t NoCurve (At (velcurve_at ws i vel))) (ne_eqb x.level.velcurve_count 0 h))
+      ap Some e ∙ sym (ap (λ (t : Bool). cond t None (Some (velcurve_at ws i vel))) (ne_eqb x.level.velcurve_count 0 h))
 
 -- where no region is chosen nothing is started
 pub none-started : (k : Kit) (n : NoteState) (c : Cause) (ch : Chosen) (b : Both) → ch.count ≡ 0 → b ≡ started_all k n c (chosen_list ch) b
@@ -51,10 +48,10 @@ module _ (k : Kit) (m : ℕ) (n : NoteState) (at : ℕ) (s : Session) (v : Sampl
       r-is ∙ rw (l, draw-is, held-is, t-is)
 
 module _ (k : Kit) (m at : ℕ) (b : Both) where
-  pub without-note : b.voice.note ≡ Absent → b ≡ dispatched_release k m at b
+  pub without-note : b.voice.note ≡ None → b ≡ dispatched_release k m at b
   unfolding dispatched_release
-  without-note e = sym (ap (λ (x : MaybeNote). fired_for k m at x b) e)
+  without-note e = sym (ap (λ (x : Option NoteState). fired_for k m at x b) e)
 
-  pub with-note : (n : NoteState) → b.voice.note ≡ Present n → (r : Both) → r ≡ releases_fired k m n at b → r ≡ dispatched_release k m at b
+  pub with-note : (n : NoteState) → b.voice.note ≡ Some n → (r : Both) → r ≡ releases_fired k m n at b → r ≡ dispatched_release k m at b
   unfolding dispatched_release
-  with-note n e r r-is = r-is ∙ sym (ap (λ (x : MaybeNote). fired_for k m at x b) e)
+  with-note n e r r-is = r-is ∙ sym (ap (λ (x : Option NoteState). fired_for k m at x b) e)

@@ -1,12 +1,10 @@
 -- A region starts: its marks on the session's list, then, where its voice has room, its record and its player. Definitions only.
-use Rattle.std.specs.Prelude.{ℕ, ◌+◌, ◌-◌, ◌%◌, ◌^◌, false, List, map, pos, ◌==◌, nat_le, nat_lt, Float}
+use Rattle.std.specs.Prelude.{ℕ, ◌+◌, ◌-◌, ◌%◌, ◌^◌, false, List, map, pos, ◌==◌, nat_le, nat_lt, Float, None, Option, Some, cond, unwrap_or}
 use mathlib.Core.List.{foldl}
 use Rattle.std.specs.Float.{binary32}
 use Rattle.std.specs.Float.Ieee.{of_int}
 use Rattle.exact.specs.Random.{drawn}
 use Rattle.exact.specs.Single.{◌⊘◌}
-use Rattle.gain.specs.declared.Curve.{Curve}
-use Rattle.gain.specs.declared.Curve.TheVariants.{NoCurve, At}
 use Rattle.player.specs.Start.{started_player}
 use Rattle.player.specs.declared.Player.{Player}
 use Rattle.player.specs.declared.start.Event.{Event}
@@ -15,37 +13,18 @@ use Rattle.players.specs.Seats.{seated}
 use Rattle.program.specs.Curve.{velcurve_at}
 use Rattle.program.specs.Region.{region_at}
 use Rattle.program.specs.Sample.{sample_at}
-use Rattle.program.specs.declared.region.MaybeU32.{MaybeU32}
-use Rattle.program.specs.declared.region.MaybeU32.TheVariants as May
-use Rattle.program.specs.declared.region.OffBy as ProgramOffBy
-use Rattle.program.specs.declared.region.OffBy.TheVariants as By
 use Rattle.program.specs.declared.region.Region.{Region}
-use Rattle.session.specs.Lists.{pick}
 use Rattle.session.specs.Records.{entered}
 use Rattle.session.specs.Rules.{start_marks, enter}
 use Rattle.session.specs.State.{view, relist, serial_up}
-use Rattle.session.specs.declared.Limit.{Limit}
-use Rattle.session.specs.declared.Limit.TheVariants.{Unlimited, Most}
-use Rattle.session.specs.declared.OffBy as SessionOffBy
-use Rattle.session.specs.declared.OffBy.TheVariants as On
 use Rattle.session.specs.declared.Session.{Session}
 use Rattle.session.specs.declared.Start.{Start}
 use Rattle.note.specs.Choice.{chosen_off}
 use Rattle.note.specs.declared.NoteState.{NoteState}
-use Rattle.note.specs.declared.MaybeNote.{MaybeNote}
-use Rattle.note.specs.declared.MaybeNote.TheVariants.{Absent, Present}
 use Rattle.events.specs.declared.SampleVoice.{SampleVoice}
 use Rattle.events.specs.declared.Both.{Both}
 use Rattle.events.specs.declared.Cause.{Cause}
 use Rattle.events.specs.Voice.{Kit, with_started, with_dropped}
-
-abbrev pub off_by_in : ProgramOffBy.OffBy → SessionOffBy.OffBy
-off_by_in By.Nobody = On.Nobody
-off_by_in (By.Group g) = On.Group g
-
-abbrev pub limit_in : MaybeU32 → Limit
-limit_in May.Absent = Unlimited
-limit_in (May.Present n) = Most n
 
 -- the start as the session sees it
 unfoldable pub start_of : Region → ℕ → ℕ → NoteState → Cause → Start
@@ -53,14 +32,14 @@ start_of x i voice n c = record {
   voice = voice;
   region = i;
   group = x.choke.group;
-  off_by = off_by_in x.choke.off_by;
+  off_by = x.choke.off_by;
   note = n.note;
   vel = n.vel;
   on_note = c.on_note;
   serial = c.serial;
   at = c.at;
-  note_polyphony = limit_in x.choke.note_polyphony;
-  polyphony = limit_in x.choke.polyphony;
+  note_polyphony = x.choke.note_polyphony;
+  polyphony = x.choke.polyphony;
 }
 
 -- region i of the voice starts; and all these regions, in turn
@@ -78,13 +57,13 @@ abbrev pub event_in : ℕ → ℕ → Cause → Event
 event_in slot i c = record { slot = slot; region = i; serial = c.serial; on_note = c.on_note; held_secs = c.held_secs }
 
 -- what the region's velocity curve gives at the note's velocity
-unfoldable pub curve_for : List ℕ → Region → ℕ → ℕ → Curve
-curve_for ws x i vel = pick (x.level.velcurve_count == 0) NoCurve (At (velcurve_at ws i vel))
+unfoldable pub curve_for : List ℕ → Region → ℕ → ℕ → Option Float
+curve_for ws x i vel = cond (x.level.velcurve_count == 0) None (Some (velcurve_at ws i vel))
 
 -- the player of the region x, which is region i, in this slot
 unfoldable pub player_from : Kit → Region → ℕ → NoteState → Cause → ℕ → Float → Player
 player_from k x i n c slot rate =
-    started_player x (sample_at k.samples x.sample) (curve_for k.words x i n.vel) (note_in n) (event_in slot i c) rate
+    started_player x (sample_at k.samples (unwrap_or x.sample 0xffff_ffff)) (curve_for k.words x i n.vel) (note_in n) (event_in slot i c) rate
 
 -- the player of region i in the voice's next slot
 unfoldable pub player_of : Kit → NoteState → Cause → SampleVoice → ℕ → Player
@@ -92,7 +71,7 @@ player_of k n c v i = player_from k (region_at k.words i) i n c v.next_slot v.sa
 
 -- one dropped start more; the counter rests at 4,294,967,295
 abbrev pub one_more_dropped : ℕ → ℕ
-one_more_dropped n = pick (nat_lt n 4294967295) (n + 1) n
+one_more_dropped n = cond (nat_lt n 4294967295) (n + 1) n
 
 abbrev pub dropped_one : SampleVoice → SampleVoice
 dropped_one v = with_dropped (one_more_dropped v.dropped) v
@@ -116,7 +95,7 @@ unfoldable pub started_region : Kit → NoteState → Cause → Both → ℕ →
 started_region k n c b i =
     let st = start_in k n c b.voice i in
     let s = marked_by st b.session in
-    pick (nat_le 32 b.voice.players.count)
+    cond (nat_le 32 b.voice.players.count)
     (record { session = s; voice = dropped_one b.voice })
     (record { session = entered_by st b.voice.next_slot s; voice = joined_by (player_of k n c b.voice i) b.voice })
 
@@ -141,9 +120,9 @@ releases_fired k m n at b =
     (chosen_off k.words m n.note n.vel (drawn n.seed s.event_serial 0) s)
     (record { session = s; voice = b.voice })
 
-abbrev pub fired_for : Kit → ℕ → ℕ → MaybeNote → Both → Both
-fired_for k m at Absent b = b
-fired_for k m at (Present n) b = releases_fired k m n at b
+abbrev pub fired_for : Kit → ℕ → ℕ → Option NoteState → Both → Both
+fired_for k m at None b = b
+fired_for k m at (Some n) b = releases_fired k m n at b
 
 -- without a note nothing happens
 unfoldable pub dispatched_release : Kit → ℕ → ℕ → Both → Both

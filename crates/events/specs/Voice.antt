@@ -1,7 +1,5 @@
 -- A voice, and the voice with one part changed. Definitions only.
-use Rattle.std.specs.Prelude.{ℕ, true, false, T, List}
-use Rattle.note.specs.declared.MaybeNote.{MaybeNote}
-use Rattle.note.specs.declared.MaybeNote.TheVariants.{Present}
+use Rattle.std.specs.Prelude.{ℕ, true, false, T, List, Option, Some}
 use Rattle.note.specs.declared.NoteState.{NoteState}
 use Rattle.players.specs.declared.Players.{Players}
 use Rattle.program.specs.Region.{region_at}
@@ -63,7 +61,7 @@ with_dropped n v = record {
 }
 
 -- with another note, the gate held or not
-abbrev pub with_note : MaybeNote → SampleVoice → SampleVoice
+abbrev pub with_note : Option NoteState → SampleVoice → SampleVoice
 with_note m v = record {
   voice = v.voice;
   sample_rate = v.sample_rate;
@@ -85,7 +83,7 @@ struck n v = record {
   program = v.program;
   gate_prev = v.gate_prev;
   gate_held = true;
-  note = Present n;
+  note = Some n;
   started = true;
   players = v.players;
   next_slot = v.next_slot;

@@ -4,7 +4,7 @@
 
 pub mod start;
 
-use note::MaybeNote;
+use note::NoteState;
 use players::Players;
 use program::bind::BoundProgram;
 use session::Session;
@@ -17,7 +17,7 @@ pub struct SampleVoice {
     pub program: BoundProgram,
     pub gate_prev: bool,
     pub gate_held: bool,
-    pub note: MaybeNote,
+    pub note: Option<NoteState>,
     pub started: bool,
     pub players: Players,
     pub next_slot: u32,

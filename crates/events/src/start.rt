@@ -8,76 +8,52 @@ ghost use Rattle.players.specs.Seats.{PlayersOk};
 ghost use Rattle.session.specs.declared.Session.{Session};
 ghost use Rattle.note.specs.Choice.{chosen_list};
 ghost use Rattle.events.specs.Voice.{Bindable};
-ghost use Rattle.events.specs.Start.{off_by_in, limit_in, start_of, starts_of, curve_for, player_from, one_more_dropped, started_all, held_for, releases_fired, dispatched_release};
+ghost use Rattle.events.specs.Start.{start_of, starts_of, curve_for, player_from, one_more_dropped, started_all, held_for, releases_fired, dispatched_release};
 
 use super::{Both, Cause, SampleVoice};
 use exact::cast::u64_to_f32;
 use exact::random::rand01;
-use gain::Curve;
 use note::choice::choose_off;
-use note::{Chosen, MaybeNote, NoteState};
+use note::{Chosen, NoteState};
 use player::Player;
 use player::start::{Event, Note, start};
 use program::curve::velcurve;
-use program::region::{MaybeU32, Region, region_at};
+use program::region::{Region, SILENCE, region_at};
 use program::sample::sample_at;
-use session::{Limit, Session, Start, Starts, next_serial, no_start, start_many};
+use session::{Session, Start, Starts, next_serial, no_start, start_many};
 
 // ---- what a start reads of its region
 
-fn off_by_in(o: program::region::OffBy) -> session::OffBy
-    ensures { result ≡ off_by_in o }
-{
-    match o {
-        program::region::OffBy::Nobody => session::OffBy::Nobody,
-        program::region::OffBy::Group(g) => session::OffBy::Group(g),
-    }
-}
-
-fn limit_in(m: MaybeU32) -> Limit
-    ensures { result ≡ limit_in m }
-{
-    match m {
-        MaybeU32::Absent => Limit::Unlimited,
-        MaybeU32::Present(n) => Limit::Most(n),
-    }
-}
-
 // The start as the session sees it.
+#[tactic(auto, unfolding(crate::specs::Start::start_of))]
 fn start_of(region: Region, ri: u32, voice: u64, ns: NoteState, c: Cause) -> Start
     ensures { result ≡ start_of region ri voice ns c }
 {
     let choke = region.choke;
-    let by = choke.off_by;
-    let np = choke.note_polyphony;
-    let p = choke.polyphony;
-    let off_by = off_by_in(by);
-    let note_polyphony = limit_in(np);
-    let polyphony = limit_in(p);
     Start {
         voice,
         region: ri,
         group: choke.group,
-        off_by,
+        off_by: choke.off_by,
         note: ns.note,
         vel: ns.vel,
         on_note: c.on_note,
         serial: c.serial,
         at: c.at,
-        note_polyphony,
-        polyphony,
+        note_polyphony: choke.note_polyphony,
+        polyphony: choke.polyphony,
     }
 }
 
 // What the region's velocity curve gives at the note's velocity.
-fn curve_for(words: &[u32], region: Region, ri: u32, vel: u8) -> Curve
+fn curve_for(words: &[u32], region: Region, ri: u32, vel: u8) -> Option<f32>
     ensures { result ≡ curve_for words.now region ri vel }
 {
     if region.level.velcurve_count == 0 {
-        return Curve::NoCurve;
+        return None;
     }
     let g = velcurve(words, ri, vel);
-    Curve::At(g)
+    Some(g)
 }
 
 // The player of a region in this slot.
@@ -94,7 +70,7 @@ fn player_of(
     requires { T (loop_in_order region.play.loop_points) }
     ensures { (result ≡ player_from (record { words = words.entry.now; samples = samples.now }) region ri ns c slot sr) × PlayerOk result }
 {
-    let sample = sample_at(samples, region.sample);
+    let sample = sample_at(samples, region.sample.unwrap_or(SILENCE));
     let curve = curve_for(words, region, ri, ns.vel);
     let interp = ns.interp;
     let note = Note {
@@ -283,10 +259,10 @@ pub fn dispatch_release(
 {
     let note = v.note;
     match note {
-        MaybeNote::Absent => Both {
+        None => Both {
             session: s,
             voice: v,
         },
-        MaybeNote::Present(ns) => fire_releases(s, v, words, samples, n, ns, at),
+        Some(ns) => fire_releases(s, v, words, samples, n, ns, at),
     }
 }

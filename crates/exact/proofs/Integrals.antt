@@ -1,20 +1,17 @@
 -- Rounding a float to a whole number, over the format and the direction. Assumes nothing.
-use Rattle.std.proofs.Common.{◌≡◌, ℕ, zero, suc, ◌+◌, ◌-◌, ◌*◌, ◌/◌, ◌%◌, ◌^◌, ◌<◌, ◌≤◌, min, Bool, true, false, not, ◌&&◌, T, eqb, ltb, leb, ℤ, pos, negsuc, sym, refl, ap, ◌∙◌, subst, ap₂, true≢false, le_trans, le_of_eq, lt_of_lt_of_le, le_of_suc-le-suc, lt_of_le_of_lt, le_of_lt, mul-le-mul_right, mod-lt, mul_assoc, mul_comm, div-lt_iff_lt-mul, le_antisymm, lt_of_mul-lt-mul_right, mul-lt-mul_of_pos_right, mul-pos, one-mul, pow-suc, lt_of_not-le, div-add-mod', le-div_iff_mul-le, zero-mul, mul-one, div-le_self, mul_right_comm, not-le_of_lt, le_of_mul-le-mul_right, div-one, arith, lit<, lit≤, le→leb, eqb→eq, ltb→lt, lt→ltb, leb→le, nltb→le, pow_pos, pow_mono, pow-add}
-use native.Mathlib.Nat.{div-div-eq-div-mul, add-mul-div_right, pow-succ'}
+use Rattle.std.proofs.Common.{◌≡◌, ℕ, zero, suc, ◌+◌, ◌-◌, ◌*◌, ◌/◌, ◌%◌, ◌^◌, ◌<◌, ◌≤◌, min, Bool, true, false, not, ◌&&◌, T, eqb, ltb, leb, ℤ, pos, negsuc, sym, refl, ap, ◌∙◌, subst, ap₂, le_trans, le_of_eq, lt_of_lt_of_le, le_of_suc-le-suc, lt_of_le_of_lt, le_of_lt, mul-le-mul_right, mod-lt, mul_assoc, mul_comm, div-lt_iff_lt-mul, le_antisymm, lt_of_mul-lt-mul_right, mul-lt-mul_of_pos_right, mul-pos, one-mul, pow-suc, lt_of_not-le, div-add-mod', le-div_iff_mul-le, zero-mul, mul-one, div-le_self, not-le_of_lt, le_of_mul-le-mul_right, div-one, arith, lit<, lit≤, le→leb, eqb→eq, ltb→lt, lt→ltb, leb→le, nltb→le, pow_pos, pow-add}
 use lib.Arith.{le→nltb}
 use lib.Pow.{pow-lt}
 use lib.Ieee.{Float, nan, inf, fin, Format, binary32, binary64, prec, emax, low, up, down, round, neg, sum, add, sub, lt, of_int, to_unsigned, in_float, fits}
-use lib.Ieee.Fits.{round-fits, down_pos, and_l, and_r}
+use lib.Ieee.Fits.{down_pos, and_l, and_r}
 use lib.Ieee.Bits.{cond_no}
 use lib.Ieee.Exact.{HasValue, round_exact}
-use lib.Ieee.Back.{round_whole, whole_unique}
-use lib.Ieee.Nearest.{div_same}
+use lib.Ieee.Back.{round_whole}
 use lib.Ieee.Scale.{round_same}
 use lib.Ieee.Positive.{num, den, den_pos, value→cross}
 use Rattle.exact.specs.Value.{plus}
-use Rattle.exact.specs.Integral.{Direction, floor, ceiling, toward_zero, toward_negative, toward_positive, ties_to_away, integral, fraction}
+use Rattle.exact.specs.Integral.{ceiling, toward_zero, toward_negative, toward_positive, ties_to_away, integral, fraction}
 use Rattle.exact.proofs.Value.{value-plus, lt-plus}
-use Rattle.exact.proofs.Negation.{neg-round}
 
 -- a test's fact, from what it came to
 pub no : {b : Bool} → b ≡ false → T (not b)
@@ -35,36 +32,7 @@ ceiling-same n d D h =
     let q : n / d * d + n % d ≡ n = div-add-mod' n d in
     le_antisymm ((le-div_iff_mul-le D).1 (omega arith)) (le_of_suc-le-suc ((div-lt_iff_lt-mul D).1 (omega arith)))
 
-half-more : (n d : ℕ) → 0 < d → ((n + n) / d + 1) / 2 ≡ floor (2 * n + d) (2 * d)
-half-more n d D =
-    let a : (2 * n + d) / d ≡ (n + n) / d + 1 = ap (λ (z : ℕ). z / d) (the_sum n d) ∙ add-mul-div_right (n + n) 1 D in
-    ap (λ (z : ℕ). z / 2) (sym a) ∙ div-div-eq-div-mul (2 * n + d) d 2 ∙ ap (λ (z : ℕ). (2 * n + d) / z) (mul_comm d 2)
-  where
-    the_sum : (n d : ℕ) → 2 * n + d ≡ n + n + 1 * d
-    the_sum n d = omega arith
-
--- ---- a whole number stays as it is
-abbrev pub Keeps : Direction → Type 0
-Keeps how = (s : Bool) (n : ℕ) → how s n 1 ≡ n
-
-ceiling-one : (n : ℕ) → ceiling n 1 ≡ n
-ceiling-one n = omega arith
-
-pub keeps-zero : Keeps toward_zero
-keeps-zero s n = div-one n
-
-pub keeps-positive : Keeps toward_positive
-keeps-positive true n = div-one n
-keeps-positive false n = ceiling-one n
-
-pub keeps-negative : Keeps toward_negative
-keeps-negative true n = ceiling-one n
-keeps-negative false n = div-one n
-
-pub keeps-away : Keeps ties_to_away
-keeps-away s n = omega arith
-
--- what fitting says of the digits, of the lowest exponent and of the highest
+-- ---- what fitting says of the digits, of the lowest exponent and of the highest
 two_up : (p : ℕ) → 0 < p → p * 2 ≡ 1 → ⊥
 two_up p h e = omega arith
 
@@ -97,6 +65,9 @@ held f s (suc m) e t =
       highest = ltb→lt (suc m * up e) (2 ^ suc (emax f) * down e) (and_r (a && b && c) d t);
     }
 
+pub lowest-exponent : (l k : ℕ) → 2 ^ suc k ≤ 2 ^ l → suc k ≤ l
+lowest-exponent l k h = le_of_suc-le-suc (lt_of_not-le (λ (g : suc l ≤ suc k). not-le_of_lt (pow-lt g) h))
+
 whole-value : (f : Format) (s : Bool) (m k : ℕ) → T (fits f (fin s m (pos k))) → HasValue (round f s (m * 2 ^ k) 1) s (m * 2 ^ k) 1
 whole-value f s m k t =
     let h = held f s m (pos k) t in
@@ -106,52 +77,14 @@ whole-value f s m k t =
     (le_of_eq (ap (λ (z : ℕ). z * 2 ^ low f) (mul-one (2 ^ suc (emax f))) ∙ mul_comm (2 ^ suc (emax f)) (2 ^ low f) ∙ sym (pow-add 2 (low f) (suc (emax f))))) in
     round_exact f s (m * 2 ^ k) 1 m (k + low f) (lit< tt) h.digits (subst (λ (z : ℕ). z < 2 ^ (low f + suc (emax f))) e b) (e ∙ sym (mul-one (m * 2 ^ (k + low f))))
 
-whole-self : (f : Format) (s : Bool) (m k : ℕ) → T (fits f (fin s m (pos k))) → round f s (m * 2 ^ k) 1 ≡ fin s m (pos k)
-whole-self f s m k t = whole_unique f (round f s (m * 2 ^ k) 1) (fin s m (pos k)) s (m * 2 ^ k) (round-fits f s (m * 2 ^ k) 1) t (whole-value f s m k t) (refl, refl)
-
-integral-self : (f : Format) (how : Direction) → Keeps how → (s : Bool) (m k : ℕ) → T (fits f (fin s m (pos k))) → fin s m (pos k) ≡ integral f how (fin s m (pos k))
-unfolding integral
-integral-self f how keeps s m k t = sym (ap (λ (n : ℕ). round f s n 1) (keeps s (m * 2 ^ k)) ∙ whole-self f s m k t)
-
--- ---- from 2 ^ (prec - 1) on a float is a whole number
-abbrev pub nought : Float
-nought = fin false 0 (pos 0)
-
-abbrev pub end : Format → Float
-end f = fin false 1 (pos (prec f - 1))
-
+-- ---- below 2 ^ (prec - 1) the digits after the point are cut
 many : (f : Format) → 2 ^ (prec f - 1) * 2 ≡ 2 ^ prec f
 many binary32 = refl
 many binary64 = refl
 
-few-digits : (p m q : ℕ) → 1 ≤ q → 1 * p * (q * 2) ≤ m * 1 * 1 → m < p * 2 → ⊥
-few-digits p m q Q h l = omega (arith, mul-le-mul_right p Q)
-
-pub large : (f : Format) (how : Direction) → Keeps how → (x : Float) → T (fits f x) → T (lt nought x) → lt x (end f) ≡ false → x ≡ integral f how x
-unfolding lt
-large f how keeps nan t a b = absurd a
-large f how keeps (inf true) t a b = absurd a
-large f how keeps (inf false) t a b = unfold integral in refl
-large f how keeps (fin true m e) t a b = absurd a
-large f how keeps (fin false m (pos k)) t a b = integral-self f how keeps false m k t
-large f how keeps (fin false m (negsuc k)) t a b =
-    absurd (few-digits (2 ^ (prec f - 1)) m (2 ^ k) (pow_pos k) (subst (λ (z : ℕ). 1 * 2 ^ (prec f - 1) * z ≤ m * 1 * 1) (pow-suc 2 k) (nltb→le (m * 1 * 1) (1 * 2 ^ (prec f - 1) * 2 ^ suc k) (no b))) (lt_of_lt_of_le (held f false m (negsuc k) t).digits (le_of_eq (sym (many f)))))
-
--- ---- below it the digits after the point are cut
 pub record Short (f : Format) (x : Float) : Type 0 where
   pub sign : T (plus x)
   pub most : num x < 2 ^ (prec f - 1) * den x
-
-plain : (a c d : ℕ) → a * 1 < 1 * c * d → a < c * d
-plain a c d h = subst (λ (z : ℕ). z < c * d) (mul-one a) (subst (λ (z : ℕ). a * 1 < z * d) (one-mul c) h)
-
-pub short : (f : Format) (x : Float) → T (lt nought x) → lt x (end f) ≡ true → Short f x
-unfolding lt
-short f nan a b = absurd a
-short f (inf true) a b = absurd a
-short f (inf false) a b = absurd (true≢false (sym b))
-short f (fin true m e) a b = absurd a
-short f (fin false m e) a b = record { sign = tt; most = plain (m * up e) (2 ^ (prec f - 1)) (down e) (ltb→lt (m * up e * 1) (1 * 2 ^ (prec f - 1) * down e) (yes b)) }
 
 abbrev word : ℕ
 word = 18446744073709551616
@@ -195,13 +128,6 @@ short-requires f x h = trunc-requires x h.sign (short-word f x h)
 pub short-trunc : (f : Format) (x : Float) → Short f x → to_unsigned 64 x ≡ num x / den x
 short-trunc f x h = trunc-is x h.sign (short-word f x h)
 
-integral-plus : (f : Format) (how : Direction) (x : Float) → T (plus x) → integral f how x ≡ round f false (how false (num x) (den x)) 1
-unfolding integral
-integral-plus f how nan p = absurd p
-integral-plus f how (inf s) p = absurd p
-integral-plus f how (fin true m e) p = absurd p
-integral-plus f how (fin false m e) p = refl
-
 pub whole_float : (f : Format) (n : ℕ) → n ≤ 2 ^ prec f → T (in_float f (pos n))
 unfolding in_float
 whole_float f n h = le→leb n (2 ^ prec f) h
@@ -221,16 +147,6 @@ cut-more f x n h e = next n (2 ^ (prec f - 1)) (2 ^ prec f) (cut f x n h e) (man
 
 less : (n q : ℕ) → n + 1 ≤ q → n ≤ q
 less n q h = omega arith
-
-pub cut-float : (f : Format) (x : Float) (n : ℕ) → Short f x → n ≡ to_unsigned 64 x → T (in_float f (pos n))
-cut-float f x n h e = whole_float f n (less n (2 ^ prec f) (cut-more f x n h e))
-
-whole-done : (f : Format) (how : Direction) (x : Float) (n : ℕ) → T (plus x) → n ≡ how false (num x) (den x) → of_int f (pos n) ≡ integral f how x
-unfolding of_int
-whole-done f how x n p e = ap (λ (z : ℕ). round f false z 1) e ∙ sym (integral-plus f how x p)
-
-pub below-cut : (f : Format) (x : Float) (n : ℕ) → Short f x → n ≡ to_unsigned 64 x → of_int f (pos n) ≡ integral f toward_zero x
-below-cut f x n h e = whole-done f toward_zero x n h.sign (e ∙ short-trunc f x h)
 
 -- the test for a fraction
 more-than : (a c k K D : ℕ) → K * 1 ≡ k * D → K * c < a * D → k * c < a
@@ -260,152 +176,6 @@ same-ceiling f x n h e l =
     let o : num x * den w ≤ num w * den x = nltb→le (num w * den x) (num x * den w) (no (sym (lt-plus w x (value-plus w n 1 v) h.sign) ∙ l)) in
     let c : num x ≤ num x / den x * den x = subst (λ (z : ℕ). num x ≤ z * den x) q (no_more (num x) (den x) n (num w) (den w) (den_pos w) (value→cross w n 1 v) o) in
     q ∙ ceiling-same (num x) (den x) (den_pos x) c
-
-pub above-next : (f : Format) (x : Float) (n : ℕ) → Short f x → n ≡ to_unsigned 64 x → lt (of_int f (pos n)) x ≡ true → of_int f (pos (n + 1)) ≡ integral f toward_positive x
-above-next f x n h e l = whole-done f toward_positive x (n + 1) h.sign (next-ceiling f x n h e l)
-
-pub above_same : (f : Format) (x : Float) (n : ℕ) → Short f x → n ≡ to_unsigned 64 x → lt (of_int f (pos n)) x ≡ false → of_int f (pos n) ≡ integral f toward_positive x
-above_same f x n h e l = whole-done f toward_positive x n h.sign (same-ceiling f x n h e l)
-
--- ---- twice a float is a float
-abbrev twice : ℕ → ℕ
-twice a = a + a
-
-two-times : (a p : ℕ) → a < p → twice a < p * 2
-two-times a p h = omega arith
-
-double-bound : (f : Format) (a d q j : ℕ) → 0 < d → a < 2 ^ (prec f - 1) * d → twice a * 2 ^ low f ≡ q * 2 ^ j * d → q * 2 ^ j < 2 ^ (low f + suc (emax f))
-double-bound f a d q j D h e =
-    let b : twice a < 2 ^ prec f * d = lt_of_lt_of_le (two-times a (2 ^ (prec f - 1) * d) h) (le_of_eq (mul_right_comm (2 ^ (prec f - 1)) d 2 ∙ ap (λ (z : ℕ). z * d) (many f))) in
-    let c : twice a * 2 ^ low f < 2 ^ (prec f + low f) * d = lt_of_lt_of_le (mul-lt-mul_of_pos_right b (pow_pos (low f))) (le_of_eq (mul_right_comm (2 ^ prec f) d (2 ^ low f) ∙ ap (λ (z : ℕ). z * d) (sym (pow-add 2 (prec f) (low f))))) in
-    lt_of_lt_of_le (lt_of_mul-lt-mul_right d (subst (λ (z : ℕ). z < 2 ^ (prec f + low f) * d) e c)) (pow_mono (reaches f))
-  where
-    reaches : (f : Format) → prec f + low f ≤ low f + suc (emax f)
-    reaches binary32 = lit≤ tt
-    reaches binary64 = lit≤ tt
-
-lowest-exponent : (l k : ℕ) → 2 ^ suc k ≤ 2 ^ l → suc k ≤ l
-lowest-exponent l k h = le_of_suc-le-suc (lt_of_not-le (λ (g : suc l ≤ suc k). not-le_of_lt (pow-lt g) h))
-
-double-up : (m k l : ℕ) → twice (m * 2 ^ k) * 2 ^ l ≡ m * 2 ^ (suc k + l) * 1
-double-up m k l = ap (λ (z : ℕ). z * 2 ^ l) (pair (m * 2 ^ k) ∙ mul_assoc m (2 ^ k) 2 ∙ ap (λ (z : ℕ). m * z) (sym (pow-suc 2 k))) ∙ mul_assoc m (2 ^ suc k) (2 ^ l) ∙ ap (λ (z : ℕ). m * z) (sym (pow-add 2 (suc k) l)) ∙ sym (mul-one (m * 2 ^ (suc k + l)))
-  where
-    pair : (a : ℕ) → twice a ≡ a * 2
-    pair a = omega arith
-
-double-down : (m k l : ℕ) → suc k ≤ l → twice (m * 1) * 2 ^ l ≡ m * 2 ^ (l - k) * 2 ^ suc k
-double-down m k l h =
-    ap (λ (z : ℕ). z * 2 ^ l) (pair m) ∙ mul_assoc m 2 (2 ^ l) ∙ ap (λ (z : ℕ). m * z) (sym (pow-succ' 2 l) ∙ ap (λ (z : ℕ). 2 ^ z) (back l k h) ∙ pow-add 2 (l - k) (suc k)) ∙ sym (mul_assoc m (2 ^ (l - k)) (2 ^ suc k))
-  where
-    pair : (m : ℕ) → twice (m * 1) ≡ m * 2
-    pair m = omega arith
-
-    back : (l k : ℕ) → suc k ≤ l → suc l ≡ l - k + suc k
-    back l k h = omega arith
-
-double-at : (f : Format) (m : ℕ) (e : ℤ) → T (fits f (fin false m e)) → m * up e < 2 ^ (prec f - 1) * down e → HasValue (round f false (twice (m * up e)) (down e)) false (twice (m * up e)) (down e)
-double-at f m (pos k) t h =
-    let e = double-up m k (low f) in
-    round_exact f false (twice (m * 2 ^ k)) 1 m (suc k + low f) (lit< tt) (held f false m (pos k) t).digits (double-bound f (m * 2 ^ k) 1 m (suc k + low f) (lit< tt) h e) e
-double-at f m (negsuc k) t h =
-    let H = held f false m (negsuc k) t in
-    let e = double-down m k (low f) (lowest-exponent (low f) k H.lowest) in
-    round_exact f false (twice (m * 1)) (2 ^ suc k) m (low f - k) (pow_pos (suc k)) H.digits (double-bound f (m * 1) (2 ^ suc k) m (low f - k) (pow_pos (suc k)) h e) e
-
-double-sum : (f : Format) (m : ℕ) (e : ℤ) → add f (fin false m e) (fin false m e) ≡ round f false (twice (m * up e)) (down e)
-unfolding add sum
-double-sum f m e =
-    let a = m * up e in
-    let d = down e in
-    round_same f false (a * d + a * d) (d * d) (twice a) d (mul-pos (down_pos e) (down_pos e)) (down_pos e) (same a d)
-  where
-    same : (a d : ℕ) → (a * d + a * d) * d ≡ (a + a) * (d * d)
-    same a d = omega arith
-
-double : (f : Format) (x : Float) → T (fits f x) → Short f x → HasValue (add f x x) false (twice (num x)) (den x)
-double f nan t h = absurd h.sign
-double f (inf s) t h = absurd h.sign
-double f (fin true m e) t h = absurd h.sign
-double f (fin false m e) t h = subst (λ (v : Float). HasValue v false (twice (m * up e)) (down e)) (sym (double-sum f m e)) (double-at f m e t h.most)
-
-double-word : (f : Format) (x : Float) → T (fits f x) → Short f x → num (add f x x) < word * den (add f x x)
-double-word f x t h =
-    let v = add f x x in
-    let c : num v * den x ≡ twice (num x) * den v = value→cross v (twice (num x)) (den x) (double f x t h) in
-    let b : twice (num x) < word * den x = lt_of_lt_of_le (two-times (num x) (2 ^ (prec f - 1) * den x) h.most) (le_trans (le_of_eq (mul_right_comm (2 ^ (prec f - 1)) (den x) 2)) (mul-le-mul_right (den x) (narrow-end f))) in
-    lt_of_mul-lt-mul_right (den x) (lt_of_le_of_lt (le_of_eq c) (lt_of_lt_of_le (mul-lt-mul_of_pos_right b (den_pos v)) (le_of_eq (mul_right_comm word (den x) (den v)))))
-
-double-plus : (f : Format) (x : Float) → T (fits f x) → Short f x → T (plus (add f x x))
-double-plus f x t h = value-plus (add f x x) (twice (num x)) (den x) (double f x t h)
-
-pub double-requires : (f : Format) (x : Float) → T (fits f x) → Short f x → T (lt (fin true 1 (pos 0)) (add f x x)) × T (lt (add f x x) (fin false 1 (pos 64)))
-double-requires f x t h = trunc-requires (add f x x) (double-plus f x t h) (double-word f x t h)
-
-double-trunc : (f : Format) (x : Float) → T (fits f x) → Short f x → to_unsigned 64 (add f x x) ≡ twice (num x) / den x
-double-trunc f x t h =
-    let v = add f x x in
-    trunc-is v (double-plus f x t h) (double-word f x t h) ∙ div_same (num v) (den v) (twice (num x)) (den x) (den_pos v) (den_pos x) (value→cross v (twice (num x)) (den x) (double f x t h))
-
-pub halves-most : (f : Format) (x : Float) (n : ℕ) → T (fits f x) → Short f x → n ≡ to_unsigned 64 (add f x x) → n < 2 ^ prec f
-halves-most f x n t h e =
-    let b : twice (num x) < 2 ^ prec f * den x = lt_of_lt_of_le (two-times (num x) (2 ^ (prec f - 1) * den x) h.most) (le_of_eq (mul_right_comm (2 ^ (prec f - 1)) (den x) 2 ∙ ap (λ (z : ℕ). z * den x) (many f))) in
-    lt_of_le_of_lt (le_of_eq (e ∙ double-trunc f x t h)) ((div-lt_iff_lt-mul (den_pos x)).1 b)
-
-pub nearest-done : (f : Format) (x : Float) (n : ℕ) → T (fits f x) → Short f x → n ≡ to_unsigned 64 (add f x x) → of_int f (pos ((n + 1) / 2)) ≡ integral f ties_to_away x
-nearest-done f x n t h e = whole-done f ties_to_away x ((n + 1) / 2) h.sign (ap (λ (z : ℕ). (z + 1) / 2) (e ∙ double-trunc f x t h) ∙ half-more (num x) (den x) (den_pos x))
-
--- ---- the sign
-pub neg-positive : (x : Float) → lt x nought ≡ true → T (lt nought (neg x))
-unfolding lt neg
-neg-positive nan h = absurd (true≢false (sym h))
-neg-positive (inf true) h = tt
-neg-positive (inf false) h = absurd (true≢false (sym h))
-neg-positive (fin false m e) h = absurd (none (m * up e * 1) (0 * 1 * down e) refl-zero (ltb→lt (m * up e * 1) (0 * 1 * down e) (yes h)))
-  where
-    refl-zero : 0 * 1 * down e ≡ 0
-    refl-zero = omega arith
-
-    none : (a z : ℕ) → z ≡ 0 → a < z → ⊥
-    none a z e h = omega arith
-neg-positive (fin true m e) h = lt→ltb (0 * 1 * down e) (m * up e * 1) (some (m * up e) (down e) (ltb→lt 0 (m * up e * 1 + 0 * 1 * down e) (yes h)))
-  where
-    some : (a d : ℕ) → 0 < a * 1 + 0 * 1 * d → 0 * 1 * d < a * 1
-    some a d h = omega arith
-
-pub positive-integral : (f : Format) (how also : Direction) → ((n d : ℕ) → also false n d ≡ how false n d) → (x : Float) → lt nought x ≡ true → integral f also x ≡ integral f how x
-unfolding lt integral
-positive-integral f how also same nan h = refl
-positive-integral f how also same (inf s) h = refl
-positive-integral f how also same (fin true m e) h = absurd (true≢false (sym h))
-positive-integral f how also same (fin false m e) h = ap (λ (n : ℕ). round f false n 1) (same (m * up e) (down e))
-
-pub negative-integral : (f : Format) (how also : Direction) → ((n d : ℕ) → also false n d ≡ how true n d) → (x : Float) → lt x nought ≡ true → neg (integral f also (neg x)) ≡ integral f how x
-unfolding lt integral neg
-negative-integral f how also same nan h = refl
-negative-integral f how also same (inf true) h = refl
-negative-integral f how also same (inf false) h = refl
-negative-integral f how also same (fin true m e) h = ap (λ (n : ℕ). neg (round f false n 1)) (same (m * up e) (down e)) ∙ sym (neg-round f (how true (m * up e) (down e)) 1)
-negative-integral f how also same (fin false m e) h = absurd (neg-positive (fin false m e) h)
-
-no-low-zero : (f : Format) (s : Bool) (k : ℕ) → T (fits f (fin s zero (negsuc k))) → ⊥
-unfolding fits
-no-low-zero f s k t = two_up (2 ^ k) (pow_pos k) (sym (pow-suc 2 k) ∙ flat (negsuc k) (eqb→eq (1 * 2 ^ suc k) 1 t))
-
-pub zero-integral : (f : Format) (how : Direction) → Keeps how → (x : Float) → T (fits f x) → lt nought x ≡ false → lt x nought ≡ false → x ≡ integral f how x
-unfolding lt
-zero-integral f how keeps nan t a b = unfold integral in refl
-zero-integral f how keeps (inf true) t a b = absurd (true≢false b)
-zero-integral f how keeps (inf false) t a b = absurd (true≢false a)
-zero-integral f how keeps (fin s m (pos k)) t a b = integral-self f how keeps s m k t
-zero-integral f how keeps (fin s zero (negsuc k)) t a b = absurd (no-low-zero f s k t)
-zero-integral f how keeps (fin false (suc m) (negsuc k)) t a b = absurd (some (m * 1) (2 ^ suc k) (nltb→le (0 * 1 * 2 ^ suc k) (suc m * 1 * 1) (no a)))
-  where
-    some : (a d : ℕ) → suc m * 1 * 1 ≤ 0 * 1 * d → ⊥
-    some a d h = omega arith
-zero-integral f how keeps (fin true (suc m) (negsuc k)) t a b = absurd (some (2 ^ suc k) (nltb→le 0 (suc m * 1 * 1 + 0 * 1 * 2 ^ suc k) (no b)))
-  where
-    some : (d : ℕ) → suc m * 1 * 1 + 0 * 1 * d ≤ 0 → ⊥
-    some d h = omega arith
 
 -- ---- the fraction
 sum-off : (f : Format) (s : Bool) (a b c : ℕ) → b ≤ a → sum f s a (not s) b c ≡ round f (s && ltb b a) (a - b) c

@@ -4,9 +4,7 @@ pub mod Negation
 pub mod Narrowing
 pub mod Integrals
 pub mod SquareRoot
-pub mod Saturate
-pub mod Leading
 pub mod Magnitude
 pub mod Extreme
-pub mod Wrap
 pub mod Draw
+pub mod Library

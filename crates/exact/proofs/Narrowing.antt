@@ -1,5 +1,5 @@
 -- From an `f64`'s bit pattern to the pattern of the nearest `f32`. Assumes nothing.
-use Rattle.std.proofs.Common.{◌≡◌, ℕ, zero, suc, ◌+◌, ◌-◌, ◌*◌, ◌/◌, ◌%◌, ◌^◌, ◌<◌, ◌≤◌, Bool, true, false, cond, not, ◌&&◌, T, eqb, ltb, leb, ◌⊎◌, sym, refl, ap, ◌∙◌, subst, ap₂, inl, inr, true≢false, le_trans, le_of_eq, le_refl, lt_of_lt_of_le, le_of_suc-le-suc, lt_of_le_of_lt, mul-le-mul_right, mod-lt, mod-eq_of_lt, div-lt_iff_lt-mul, mul-le-mul, add_comm, le_antisymm, eq-or-lt_of_le, mul-le-mul_left, mul-lt-mul_of_pos_right, mul-pos, one-mul, pow-suc, lt_of_not-le, div-add-mod', le-div_iff_mul-le, zero-add, mul-one, not-le_of_lt, div-mul-le_self, div-one, mul-div_cancel, arith, lit<, lit≤, le→leb, eqb→eq, ltb→lt, lt→ltb, nltb→le, pow_pos, pow_mono, pow-add}
+use Rattle.std.proofs.Common.{◌≡◌, ℕ, zero, suc, ◌+◌, ◌-◌, ◌*◌, ◌/◌, ◌%◌, ◌^◌, ◌<◌, ◌≤◌, Bool, true, false, cond, not, ◌&&◌, T, eqb, ltb, leb, ◌⊎◌, sym, refl, ap, ◌∙◌, subst, ap₂, inl, inr, true≢false, le_trans, le_of_eq, le_refl, lt_of_lt_of_le, le_of_suc-le-suc, lt_of_le_of_lt, mul-le-mul_right, mod-lt, mod-eq_of_lt, div-lt_iff_lt-mul, mul-le-mul, add_comm, le_antisymm, eq-or-lt_of_le, mul-lt-mul_of_pos_right, mul-pos, one-mul, pow-suc, lt_of_not-le, div-add-mod', le-div_iff_mul-le, zero-add, mul-one, not-le_of_lt, div-one, mul-div_cancel, arith, lit<, lit≤, le→leb, eqb→eq, ltb→lt, lt→ltb, nltb→le, pow_pos, pow_mono, pow-add}
 use Prim.Native.Nat.{compare, Ordering}
 use native.Mathlib.Nat.{add-mul-div_right, mul-add-mod_self_right}
 use lib.Dec.{not_T}
@@ -317,41 +317,6 @@ narrowed-neg (fin false m e) u = neg-round binary32 (m * up e) (down e)
 narrowed-neg (fin true m e) u = absurd u
 
 -- ---- what `nearest_quotient` computes
-by_order : (q a u : ℕ) (o : Ordering) → Cmp o a u → (a < u → nearest q o ≡ q) × (u < a → nearest q o ≡ q + 1) × (a ≡ u → nearest q o ≡ q + q % 2)
-by_order q a u Ordering.lt h = (λ k. refl, λ k. absurd (bad1 k), λ k. absurd (bad2 k))
-  where
-    bad1 : u < a → ⊥
-    bad1 k = omega arith
-
-    bad2 : a ≡ u → ⊥
-    bad2 k = omega arith
-by_order q a u Ordering.eq h = (λ k. absurd (bad1 k), λ k. absurd (bad2 k), λ k. refl)
-  where
-    bad1 : a < u → ⊥
-    bad1 k = omega arith
-
-    bad2 : u < a → ⊥
-    bad2 k = omega arith
-by_order q a u Ordering.gt h = (λ k. absurd (bad1 k), λ k. omega arith, λ k. absurd (bad2 k))
-  where
-    bad1 : a < u → ⊥
-    bad1 k = omega arith
-
-    bad2 : a ≡ u → ⊥
-    bad2 k = omega arith
-
-pub closest-down : (v u : ℕ) → v % u * 2 < u → v / u ≡ closest v u
-closest-down v u h = sym ((by_order (v / u) (v % u * 2) u (compare (v % u * 2) u) (cmp (v % u * 2) u)).0 h)
-
-pub closest-up : (v u : ℕ) → u < v % u * 2 → v / u + 1 ≡ closest v u
-closest-up v u h = sym ((by_order (v / u) (v % u * 2) u (compare (v % u * 2) u) (cmp (v % u * 2) u)).1 h)
-
-pub closest-tie : (v u : ℕ) → v % u * 2 ≡ u → v / u + v / u % 2 ≡ closest v u
-closest-tie v u h = sym ((by_order (v / u) (v % u * 2) u (compare (v % u * 2) u) (cmp (v % u * 2) u)).2 h)
-
-pub half-quotient : (v u : ℕ) → 2 ≤ u → v / u * 2 ≤ v
-half-quotient v u h = le_trans (mul-le-mul_left (v / u) h) (div-mul-le_self v u)
-
 -- ---- what `narrow_bits` returns
 finite-plus : (b : ℕ) → b < 9218868437227405312 → T (plus (of_bits binary64 b))
 finite-plus b h = go (b / 4503599627370496) refl

@@ -3,95 +3,47 @@
 ghost use Rattle.std.specs.Prelude.{◌≡◌, pos};
 ghost use Rattle.std.specs.Float.Ieee as Ieee;
 ghost use Rattle.std.specs.Float.{binary32, binary64};
-ghost use Rattle.std.specs.Float.Ieee.Nearest as Nearest;
 
 // Rust's `x as u8`.
 pub fn f32_to_u8(x: f32) -> u8
     ensures { result ≡ Ieee.to_unsigned 8 x }
 {
-    if x >= 256.0 {
-        return 255;
-    }
-    if x > 0.0 {
-        return std::num::truncating_f32_to_u64(x) as u8;
-    }
-    0
+    std::num::saturating_f32_to_u8(x)
 }
 
 // Rust's `x as u32`.
 pub fn f32_to_u32(x: f32) -> u32
     ensures { result ≡ Ieee.to_unsigned 32 x }
 {
-    if x >= 4294967296.0 {
-        return 4294967295;
-    }
-    if x > 0.0 {
-        return std::num::truncating_f32_to_u64(x) as u32;
-    }
-    0
+    std::num::saturating_f32_to_u32(x)
 }
 
 // Rust's `x as usize`.
 pub fn f32_to_usize(x: f32) -> usize
     ensures { result ≡ Ieee.to_unsigned 64 x }
 {
-    if x >= 18446744073709551616.0 {
-        return 18446744073709551615;
-    }
-    if x > 0.0 {
-        return std::num::truncating_f32_to_u64(x) as usize;
-    }
-    0
+    std::num::saturating_f32_to_usize(x)
 }
 
 // Rust's `x as usize`.
 pub fn f64_to_usize(x: f64) -> usize
     ensures { result ≡ Ieee.to_unsigned 64 x }
 {
-    if x >= 18446744073709551616.0 {
-        return 18446744073709551615;
-    }
-    if x > 0.0 {
-        return std::num::truncating_f64_to_u64(x) as usize;
-    }
-    0
+    std::num::saturating_f64_to_usize(x)
 }
 
 // Rust's `x as i64`.
 pub fn f32_to_i64(x: f32) -> i64
     ensures { result ≡ Ieee.to_signed 63 x }
 {
-    if x >= 9223372036854775808.0 {
-        return 9223372036854775807;
-    }
-    if x >= -9223372036854775808.0 {
-        return std::num::truncating_f32_to_i64(x);
-    }
-    if x != x {
-        return 0;
-    }
-    -9223372036854775808
+    std::num::saturating_f32_to_i64(x)
 }
 
-// m / 2^40 to the nearest whole number, a tie to the even one.
-fn nearest_40(m: u64) -> u64
-    ensures { result ≡ Nearest.closest m 1099511627776 }
-{
-    let q = m / 1099511627776;
-    q + (m % 1099511627776 + 549755813887 + q % 2) / 1099511627776
-}
-
-// Rust's `n as f32`. The digits from the leading one on go into the pattern: the first 24 rounded, the exponent from
-// their place.
+// Rust's `n as f32`.
 pub fn u64_to_f32(n: u64) -> f32
     ensures { result ≡ Ieee.of_int binary32 (pos n) }
 {
-    if n == 0 {
-        return 0.0;
-    }
-    let zeros = u64::leading_zeros(n);
-    let digits = nearest_40(n << zeros);
-    f32::from_bits((189 - zeros) * 8388608 + digits as u32)
+    std::num::nearest_u64_to_f32(n)
 }
 
 // Rust's `n as f64`.

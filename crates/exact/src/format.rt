@@ -1,14 +1,32 @@
 // From one float format to the other.
-ghost use Rattle.std.specs.Prelude.{◌≡◌, ◌≤◌};
+ghost use Rattle.std.specs.Prelude.{◌≡◌, ◌≤◌, ◌^◌};
 ghost use Rattle.std.specs.Float.Ieee as Ieee;
 ghost use Rattle.std.specs.Float.{binary32, binary64};
 ghost use Rattle.std.specs.Float.Ieee.Nearest as Nearest;
 ghost use Rattle.exact.specs.Narrow.{narrowed};
 
+// Of a double's pattern: the sign's bit, and the digit above the 52 that are written.
+const SIGN: u64 = 0x8000_0000_0000_0000;
+
+const HIDDEN: u64 = 0x10_0000_0000_0000;
+
+// Patterns of doubles: 1; 2^-126, from which on a single has all its digits; and 2^-151, below which it is 0.
+const ONE: u64 = 0x3ff0_0000_0000_0000;
+
+const NORMAL: u64 = 0x3810_0000_0000_0000;
+
+const SUBNORMAL: u64 = 0x3680_0000_0000_0000;
+
+// The pattern of a single's infinity.
+const INFINITY: u32 = 0x7f80_0000;
+
+// What a double's exponent is written with above a single's, 1023 - 127, in the place of a single's.
+const BIAS: u64 = 0x1_c000_0000;
+
 // v / u to the nearest whole number, a tie to the even one.
 fn nearest_quotient(v: u64, u: u64) -> u64
-    requires fact_1 { 2 ≤ u }
-    requires fact_2 { u ≤ 4611686018427387904 }
+    requires at_least_two { 2 ≤ u }
+    requires twice_fits { u ≤ 2 ^ 62 }
     ensures { result ≡ Nearest.closest v u }
 {
     let q = v / u;
@@ -24,54 +42,56 @@ fn nearest_quotient(v: u64, u: u64) -> u64
 
 // b / 2^29 to the nearest whole number, a tie to the even one, without a branch.
 fn nearest_29(b: u64) -> u64
-    requires { b ≤ 9218868437227405312 }
-    ensures { result ≡ Nearest.closest b 536870912 }
+    requires { b ≤ 0x7ff0_0000_0000_0000 }
+    ensures { result ≡ Nearest.closest b (2 ^ 29) }
 {
-    (b + 268435455 + b / 536870912 % 2) / 536870912
+    (b + 0xfff_ffff + (b >> 29) % 2) >> 29
 }
 
 // The pattern of the `f32` nearest to the `f64` of the pattern b, which has no sign and is no NaN's. From 2^-126 up
 // the two patterns have the same digits, 29 fewer; below it the result is subnormal, and below 2^-150 it is 0.
 fn narrow_bits(b: u64) -> u32
-    requires { b ≤ 9218868437227405312 }
-    ensures { (Ieee.of_bits binary32 result ≡ narrowed (Ieee.of_bits binary64 b)) × (result ≤ 2139095040) }
+    requires { b ≤ 0x7ff0_0000_0000_0000 }
+    ensures { (Ieee.of_bits binary32 result ≡ narrowed (Ieee.of_bits binary64 b)) × (result ≤ 0x7f80_0000) }
 {
-    if b >= 4039728865751334912 {
+    if b >= NORMAL {
         let q = nearest_29(b);
-        if q < 9655287808 {
-            (q - 7516192768) as u32
+        if q < BIAS + INFINITY as u64 {
+            (q - BIAS) as u32
         } else {
-            2139095040
+            INFINITY
         }
-    } else if b >= 3927138875067072512 {
-        let shift = 926 - b / 4503599627370496;
-        nearest_quotient(b % 4503599627370496 + 4503599627370496, 1 << shift) as u32
+    } else if b >= SUBNORMAL {
+        let shift = 926 - (b >> 52);
+        nearest_quotient(b % HIDDEN + HIDDEN, 1 << shift) as u32
     } else {
         0
     }
 }
 
-// Rust's `x as f32`: the nearest single, a tie to the even one.
+// Rust's `x as f32`: the nearest single, a tie to the even one. std's nearest_f64_to_f32_with_nan was tried: it is proved the
+// same, and took twice the time a call; every frame narrows.
 pub fn narrow(x: f64) -> f32
     ensures { result ≡ narrowed x }
 {
     if x != x {
-        return 0.0f32 / 0.0f32;
+        return f32::NAN;
     }
     let bits: u64 = f64::to_bits(x);
-    if bits < 9223372036854775808 {
+    if bits < SIGN {
         f32::from_bits(narrow_bits(bits))
     } else {
-        -f32::from_bits(narrow_bits(bits - 9223372036854775808))
+        -f32::from_bits(narrow_bits(bits - SIGN))
     }
 }
 
-// The pattern where b is that of a number from 2^-126 to 1.
+// `narrow_bits` where b is the pattern of a number from 2^-126 to 1: its first case alone, without a branch.
 fn part_bits(b: u64) -> u32
-    requires { (4039728865751334912 ≤ b) × (b ≤ 4607182418800017408) }
-    ensures { (Ieee.of_bits binary32 result ≡ narrowed (Ieee.of_bits binary64 b)) × (result ≤ 2139095040) }
+    requires least { 0x3810_0000_0000_0000 ≤ b }
+    requires most { b ≤ 0x3ff0_0000_0000_0000 }
+    ensures { (Ieee.of_bits binary32 result ≡ narrowed (Ieee.of_bits binary64 b)) × (result ≤ 0x7f80_0000) }
 {
-    (nearest_29(b) - 7516192768) as u32
+    (nearest_29(b) - BIAS) as u32
 }
 
 // `narrow`, short enough to be compiled into its callers where x is most often from 2^-126 to 1.
@@ -82,8 +102,8 @@ pub fn narrow_part(x: f64) -> f32
         return narrow(x);
     }
     let bits: u64 = f64::to_bits(x);
-    if bits >= 4039728865751334912 {
-        if bits <= 4607182418800017408 {
+    if bits >= NORMAL {
+        if bits <= ONE {
             return f32::from_bits(part_bits(bits));
         }
     }

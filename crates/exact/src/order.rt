@@ -6,16 +6,15 @@ ghost use Rattle.std.specs.Float.Ieee.Scale as Scale;
 ghost use Rattle.exact.specs.Order.{magnitude, maximum, minimum, clamped};
 
 // Rust's `x.abs()`.
+#[tactic(auto, using(crate::proofs::Library::magnitude_is))]
 pub fn abs_f32(x: f32) -> f32
     ensures { result ≡ magnitude x }
 {
-    if x != x {
-        return x;
-    }
-    f32::from_bits(f32::to_bits(x) % 2147483648)
+    x.abs()
 }
 
-// Rust's `x.max(y)`. Of two zeros x + y is the plus one, unless both are minus.
+// Rust's `x.max(y)`, by tests: std's leaves open which of two zeros it gives, and here it is one equation.
+// Of two zeros x + y is the plus one, unless both are minus.
 pub fn max_f32(x: f32, y: f32) -> f32
     ensures { result ≡ maximum x y }
 {
@@ -34,7 +33,8 @@ pub fn max_f32(x: f32, y: f32) -> f32
     x
 }
 
-// Rust's `x.min(y)`. Of two zeros -(-x - y) is the minus one, unless both are plus.
+// Rust's `x.min(y)`. Its own tests are plainer than -max_f32(-x, -y), which turns three signs.
+// Of two zeros -(-x - y) is the minus one, unless both are plus.
 pub fn min_f32(x: f32, y: f32) -> f32
     ensures { result ≡ minimum x y }
 {
@@ -53,7 +53,9 @@ pub fn min_f32(x: f32, y: f32) -> f32
     x
 }
 
-// Rust's `x.clamp(lo, hi)`, which panics where lo is above hi or one of them is a NaN.
+// Rust's `x.clamp(lo, hi)`, which panics where lo is above hi or one of them is a NaN. By tests: std's asks for lo up to hi,
+// and this asks nothing of its callers.
+#[tactic(auto, unfolding(crate::specs::Order::clamped))]
 pub fn clamp_f32(x: f32, lo: f32, hi: f32) -> f32
     ensures { result ≡ clamped x lo hi }
 {
@@ -66,29 +68,24 @@ pub fn clamp_f32(x: f32, lo: f32, hi: f32) -> f32
     x
 }
 
-// Rust's `x.is_finite()`: a NaN or an infinity less itself is a NaN.
+// Rust's `x.is_finite()`.
+#[tactic(auto, using(crate::proofs::Library::finite_is))]
 pub fn is_finite_f32(x: f32) -> bool
     ensures { result ≡ Scale.finite x }
 {
-    x - x == 0.0
+    x.is_finite()
 }
 
 // Rust's `x.to_bits()`, where a NaN has the one pattern.
 pub fn bits_f32(x: f32) -> u32
     ensures { result ≡ Ieee.to_bits binary32 x }
 {
-    if x != x {
-        return 2143289344;
-    }
-    f32::to_bits(x)
+    std::num::f32_to_bits_with_nan(x)
 }
 
 // Rust's `f32::from_bits(b)`: every NaN's pattern is the NaN.
 pub fn from_bits_f32(b: u32) -> f32
     ensures { result ≡ Ieee.of_bits binary32 b }
 {
-    if b % 2147483648 > 2139095040 {
-        return 0.0 / 0.0;
-    }
-    f32::from_bits(b)
+    std::num::f32_from_bits_with_nan(b)
 }

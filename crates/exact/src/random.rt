@@ -2,26 +2,24 @@
 ghost use Rattle.std.specs.Prelude.{◌≡◌, ◌*◌, ◌%◌, ◌^◌};
 ghost use Rattle.exact.specs.Random.{split_mix, uniform_of, drawn};
 
-// a * b, modulo 2^64, by halves of 32 bits: of the cross products only the lower halves count, and the product of the
-// upper halves not at all.
+// The odd number nearest to 2^64 over the golden ratio, which each step adds to the state.
+const GOLDEN_GAMMA: u64 = 0x9e37_79b9_7f4a_7c15;
+
+// a * b, modulo 2^64.
 pub fn wrapping_mul_u64(a: u64, b: u64) -> u64
     ensures { result ≡ (a * b) % 2 ^ 64 }
 {
-    let al = a % 4294967296;
-    let ah = a / 4294967296;
-    let bl = b % 4294967296;
-    let bh = b / 4294967296;
-    let cross = ah * bl % 4294967296 + al * bh % 4294967296;
-    std::num::wrapping_add_u64(al * bl, cross % 4294967296 * 4294967296)
+    a.wrapping_mul(b)
 }
 
 // The first output of SplitMix64 from the state z.
+#[tactic(auto, unfolding(crate::specs::Random::split_mix, crate::specs::Random::mix))]
 pub fn splitmix64(z: u64) -> u64
     ensures { result ≡ split_mix z }
 {
-    let s = std::num::wrapping_add_u64(z, 0x9e37_79b9_7f4a_7c15);
-    let t = wrapping_mul_u64(s ^ (s >> 30), 0xbf58_476d_1ce4_e5b9);
-    let u = wrapping_mul_u64(t ^ (t >> 27), 0x94d0_49bb_1331_11eb);
+    let s = z.wrapping_add(GOLDEN_GAMMA);
+    let t = (s ^ (s >> 30)).wrapping_mul(0xbf58_476d_1ce4_e5b9);
+    let u = (t ^ (t >> 27)).wrapping_mul(0x94d0_49bb_1331_11eb);
     u ^ (u >> 31)
 }
 

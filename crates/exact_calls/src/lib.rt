@@ -1,4 +1,5 @@
-// The exact numbers, exported for a program in another language to call. Each contract is that of the function called.
+// The exact numbers, exported for a program in another language to call: one function for each C name, and none over types. Each
+// contract is that of the function called.
 #![tactic(auto)]
 
 ghost use Rattle.std.specs.Prelude.{◌≡◌, ◌*◌, ◌%◌, ◌^◌, pos};

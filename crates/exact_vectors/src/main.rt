@@ -5,229 +5,136 @@
 
 mod tables;
 
-fn main() {
-    singles();
-    pairs();
-    doubles();
-    wholes();
-    signed_wholes();
-    published(1234567);
-    published(0);
+use exact::cast::{
+    f32_to_i64, f32_to_u8, f32_to_u32, f32_to_usize, f64_to_usize, i32_to_f32, u32_to_f32,
+    u32_to_f64, u64_to_f32, u64_to_f64,
+};
+use exact::format::{narrow, widen};
+use exact::integral::{ceil_f32, floor_f64, fract_f64, round_f32, trunc_f64};
+use exact::order::{abs_f32, bits_f32, clamp_f32, from_bits_f32, is_finite_f32, max_f32, min_f32};
+use exact::random::{rand01, splitmix64, uniform, wrapping_mul_u64};
+use exact::root::sqrt_f32;
+use std::num::{f64_from_bits_with_nan, f64_to_bits_with_nan};
+use std::{fmt, io};
+
+fn main(rt: HostRuntime) -> io::Result<()> {
+    tables::SINGLES.iter().try_for_each(|b| of_single(&rt, *b))?;
+    tables::PAIRED.iter().try_for_each(|b| pairs_with(&rt, *b))?;
+    tables::DOUBLES.iter().try_for_each(|b| of_double(&rt, *b))?;
+    tables::WHOLES.iter().try_for_each(|n| of_whole(&rt, *n))?;
+    tables::SIGNED.iter().try_for_each(|n| of_signed(&rt, *n))?;
+    published(&rt, 1234567)?;
+    published(&rt, 0)
 }
 
-fn space() {
-    io::write_all(1, b" ");
-}
-
-fn end() {
-    io::write_all(1, b"\n");
-}
-
-// A single's bits. Every NaN has the one pattern.
-fn put_f32(x: f32) {
-    space();
-    io::print_hex(1, exact::order::bits_f32(x) as u64, 8);
-}
-
-fn put_u32(n: u32) {
-    space();
-    io::print_hex(1, n as u64, 8);
-}
-
-fn put_u64(n: u64) {
-    space();
-    io::print_hex(1, n, 16);
-}
-
-fn put_f64(x: f64) {
-    if x != x {
-        put_u64(0x7ff8_0000_0000_0000);
-    } else {
-        put_u64(f64::to_bits(x));
-    }
-}
-
-// A negative number as its complement, which is -1 - n, behind a tilde.
-fn put_i64(n: i64) {
-    if n < 0 {
-        io::write_all(1, b" ~");
-        io::print_hex(1, (-1 - n) as u64, 16);
-    } else {
-        put_u64(n as u64);
-    }
-}
-
-fn put_bool(b: bool) {
-    if b {
-        io::write_all(1, b" true");
-    } else {
-        io::write_all(1, b" false");
-    }
+// A double's bits. Every NaN has the one pattern.
+fn bits_f64(x: f64) -> u64 {
+    f64_to_bits_with_nan(x)
 }
 
 // A function of a single that gives a single.
-fn row(name: &[u8], b: u32, r: f32) {
-    io::write_all(1, name);
-    put_u32(b);
-    put_f32(r);
-    end();
+fn row(rt: &impl Print, name: &str, b: u32, r: f32) -> io::Result<()> {
+    println!(rt; "{name} {b:08x} {:08x}", bits_f32(r))
 }
 
-fn of_single(b: u32) {
-    let x = exact::order::from_bits_f32(b);
-    row(b"from_bits_f32", b, x);
-    row(b"abs_f32", b, exact::order::abs_f32(x));
-    row(b"clamp_f32_0_1", b, exact::order::clamp_f32(x, 0.0, 1.0));
-    row(b"clamp_f32_zeros", b, exact::order::clamp_f32(x, 0.0, -0.0));
+fn of_single(rt: &impl Print, b: u32) -> io::Result<()> {
+    let x = from_bits_f32(b);
+    row(rt, "from_bits_f32", b, x)?;
+    row(rt, "abs_f32", b, abs_f32(x))?;
+    row(rt, "clamp_f32_0_1", b, clamp_f32(x, 0.0, 1.0))?;
+    row(rt, "clamp_f32_zeros", b, clamp_f32(x, 0.0, -0.0))?;
     row(
-        b"clamp_f32_infinities",
+        rt,
+        "clamp_f32_infinities",
         b,
-        exact::order::clamp_f32(x, -1.0 / 0.0, 1.0 / 0.0),
-    );
-    io::write_all(1, b"is_finite_f32");
-    put_u32(b);
-    put_bool(exact::order::is_finite_f32(x));
-    end();
-    io::write_all(1, b"widen");
-    put_u32(b);
-    put_f64(exact::format::widen(x));
-    end();
-    cast_single(b);
-    whole_single(b);
-}
-
-// A single rounded to a whole number, and its square root.
-fn whole_single(b: u32) {
-    let x = exact::order::from_bits_f32(b);
-    row(b"ceil_f32", b, exact::integral::ceil_f32(x));
-    row(b"round_f32", b, exact::integral::round_f32(x));
-    row(b"sqrt_f32", b, exact::root::sqrt_f32(x));
+        clamp_f32(x, f32::NEG_INFINITY, f32::INFINITY),
+    )?;
+    println!(rt; "is_finite_f32 {b:08x} {}", is_finite_f32(x))?;
+    println!(rt; "widen {b:08x} {:016x}", bits_f64(widen(x)))?;
+    cast_single(rt, b, x)?;
+    row(rt, "ceil_f32", b, ceil_f32(x))?;
+    row(rt, "round_f32", b, round_f32(x))?;
+    row(rt, "sqrt_f32", b, sqrt_f32(x))
 }
 
 // A single cast to each integer type.
-fn cast_single(b: u32) {
-    let x = exact::order::from_bits_f32(b);
-    io::write_all(1, b"f32_to_u8_u32_usize_i64");
-    put_u32(b);
-    put_u64(exact::cast::f32_to_u8(x) as u64);
-    put_u64(exact::cast::f32_to_u32(x) as u64);
-    put_u64(exact::cast::f32_to_usize(x) as u64);
-    put_i64(exact::cast::f32_to_i64(x));
-    end();
+fn cast_single(rt: &impl Print, b: u32, x: f32) -> io::Result<()> {
+    println!(rt;
+        "f32_to_u8_u32_usize_i64 {b:08x} {:016x} {:016x} {:016x} {}",
+        f32_to_u8(x),
+        f32_to_u32(x),
+        f32_to_usize(x),
+        Signed(f32_to_i64(x))
+    )
 }
 
-fn singles() {
-    for i in 0..64 {
-        of_single(tables::SINGLES[i]);
+// A negative number is written as its complement, behind a tilde.
+#[derive(Clone, Copy)]
+struct Signed(i64);
+
+impl fmt::Display for Signed {
+    fn fmt<W: fmt::Write>(&self, f: &mut fmt::Formatter<W>) -> fmt::Result {
+        if self.0 < 0 {
+            write!(f, "~{:016x}", !self.0)
+        } else {
+            write!(f, "{:016x}", self.0)
+        }
     }
 }
 
-fn of_pair(b: u32, c: u32) {
-    let x = exact::order::from_bits_f32(b);
-    let y = exact::order::from_bits_f32(c);
-    io::write_all(1, b"max_min_f32");
-    put_u32(b);
-    put_u32(c);
-    put_f32(exact::order::max_f32(x, y));
-    put_f32(exact::order::min_f32(x, y));
-    end();
+fn pairs_with(rt: &impl Print, b: u32) -> io::Result<()> {
+    tables::PAIRED.iter().try_for_each(|c| of_pair(rt, b, *c))
 }
 
-fn pairs_with(b: u32) {
-    for i in 0..14 {
-        of_pair(b, tables::PAIRED[i]);
-    }
+fn of_pair(rt: &impl Print, b: u32, c: u32) -> io::Result<()> {
+    let x = from_bits_f32(b);
+    let y = from_bits_f32(c);
+    let (larger, smaller) = (bits_f32(max_f32(x, y)), bits_f32(min_f32(x, y)));
+    println!(rt; "max_min_f32 {b:08x} {c:08x} {larger:08x} {smaller:08x}")
 }
 
-fn pairs() {
-    for i in 0..14 {
-        pairs_with(tables::PAIRED[i]);
-    }
-}
-
-// The double of a pattern. Every NaN's pattern is the NaN.
-fn double(b: u64) -> f64 {
-    if b % 0x8000_0000_0000_0000 > 0x7ff0_0000_0000_0000 {
-        return 0.0 / 0.0;
-    }
-    f64::from_bits(b)
-}
-
-fn of_double(b: u64) {
-    let x = double(b);
-    io::write_all(1, b"narrow");
-    put_u64(b);
-    put_f32(exact::format::narrow(x));
-    end();
-    io::write_all(1, b"f64_to_usize");
-    put_u64(b);
-    put_u64(exact::cast::f64_to_usize(x) as u64);
-    end();
-    whole_double(b);
-}
-
-// A double cut to a whole number, rounded down, and what the cut leaves.
-fn whole_double(b: u64) {
-    let x = double(b);
-    io::write_all(1, b"trunc_floor_fract_f64");
-    put_u64(b);
-    put_f64(exact::integral::trunc_f64(x));
-    put_f64(exact::integral::floor_f64(x));
-    put_f64(exact::integral::fract_f64(x));
-    end();
-}
-
-fn doubles() {
-    for i in 0..64 {
-        of_double(tables::DOUBLES[i]);
-    }
+// A double narrowed and cast, cut to a whole number, rounded down, and what the cut leaves.
+fn of_double(rt: &impl Print, b: u64) -> io::Result<()> {
+    let x = f64_from_bits_with_nan(b);
+    println!(rt; "narrow {b:016x} {:08x}", bits_f32(narrow(x)))?;
+    println!(rt; "f64_to_usize {b:016x} {:016x}", f64_to_usize(x))?;
+    println!(rt;
+        "trunc_floor_fract_f64 {b:016x} {:016x} {:016x} {:016x}",
+        bits_f64(trunc_f64(x)),
+        bits_f64(floor_f64(x)),
+        bits_f64(fract_f64(x))
+    )
 }
 
 // A whole number cast to floats, its lower half too, and hashed.
-fn of_whole(n: u64) {
+fn of_whole(rt: &impl Print, n: u64) -> io::Result<()> {
     let half = (n % 0x1_0000_0000) as u32;
-    io::write_all(1, b"to_f32_f64");
-    put_u64(n);
-    put_f32(exact::cast::u64_to_f32(n));
-    put_f64(exact::cast::u64_to_f64(n));
-    put_f32(exact::cast::u32_to_f32(half));
-    put_f64(exact::cast::u32_to_f64(half));
-    end();
-    io::write_all(1, b"splitmix64_uniform_rand01");
-    put_u64(n);
-    put_u64(exact::random::splitmix64(n));
-    put_f32(exact::random::uniform(n));
-    put_f32(exact::random::rand01(half, n, 65536));
-    put_u64(exact::random::wrapping_mul_u64(n, n));
-    end();
+    let (single, double) = (bits_f32(u64_to_f32(n)), bits_f64(u64_to_f64(n)));
+    let (half_single, half_double) = (bits_f32(u32_to_f32(half)), bits_f64(u32_to_f64(half)));
+    println!(rt;
+        "to_f32_f64 {n:016x} {single:08x} {double:016x} {half_single:08x} {half_double:016x}"
+    )?;
+    let (hash, share) = (splitmix64(n), bits_f32(uniform(n)));
+    let (draw, square) = (bits_f32(rand01(half, n, 65536)), wrapping_mul_u64(n, n));
+    println!(rt;
+        "splitmix64_uniform_rand01 {n:016x} {hash:016x} {share:08x} {draw:08x} {square:016x}"
+    )
 }
 
-fn wholes() {
-    for i in 0..40 {
-        of_whole(tables::WHOLES[i]);
-    }
-}
-
-fn of_signed(n: i32) {
-    io::write_all(1, b"i32_to_f32");
-    put_i64(n as i64);
-    put_f32(exact::cast::i32_to_f32(n));
-    end();
-}
-
-fn signed_wholes() {
-    for i in 0..12 {
-        of_signed(tables::SIGNED[i]);
-    }
+fn of_signed(rt: &impl Print, n: i32) -> io::Result<()> {
+    println!(rt;
+        "i32_to_f32 {} {:08x}",
+        Signed(i64::from(n)),
+        bits_f32(i32_to_f32(n))
+    )
 }
 
 // The first five outputs of SplitMix64 from a seed, as they are published: each step adds the gamma to the state.
-fn published(seed: u64) {
+fn published(rt: &impl Print, seed: u64) -> io::Result<()> {
     let mut state = seed;
-    for i in 0..5u64 {
-        io::write_all(1, b"SplitMix64 ");
-        io::print_decimal(1, exact::random::splitmix64(state));
-        end();
-        state = std::num::wrapping_add_u64(state, 0x9e37_79b9_7f4a_7c15);
+    for _ in 0..5 {
+        println!(rt; "SplitMix64 {}", splitmix64(state))?;
+        state = state.wrapping_add(0x9e37_79b9_7f4a_7c15);
     }
+    Ok(())
 }

@@ -6,7 +6,6 @@ use Rattle.std.specs.Float.Ieee.{add, sub, mul, of_bits}
 use Rattle.filter.specs.declared.Coefficients.{Coefficients}
 use Rattle.filter.specs.declared.FilterShape.{FilterShape}
 use Rattle.filter.specs.declared.FilterShape.TheVariants.{Off, Lp1, Hp1, Biquad}
-use Rattle.filter.specs.declared.FilterSlot.{FilterSlot}
 
 infixl 6 ◌⊕◌
 infixl 6 ◌⊖◌
@@ -69,14 +68,14 @@ ticked (Hp1 p) base s =
     let x1 = at s.states base in
     let y1 = at s.states (base + 1) in
     one_pole base x (half ⊗ (one ⊕ p) ⊗ (x ⊖ x1) ⊕ p ⊗ y1) s.states
-ticked (Biquad b0 b1 b2 a1 a2 n) base s = stages (record { b0 = b0; b1 = b1; b2 = b2; a1 = a1; a2 = a2 }) base n s
+ticked (Biquad c n) base s = stages c base n s
 
 -- how many biquad stages a shape has
 abbrev pub stage_count : FilterShape → ℕ
 stage_count Off = 0
 stage_count (Lp1 p) = 0
 stage_count (Hp1 p) = 0
-stage_count (Biquad b0 b1 b2 a1 a2 n) = n
+stage_count (Biquad c n) = n
 
 -- both channels of a frame, and the states of all slots
 pub record Paired : Type 0 where
@@ -94,14 +93,15 @@ pair_ticked shape k false s =
     let left = ticked shape (12 * k) (record { y = s.l; states = s.states }) in
     record { l = left.y; r = s.r; states = left.states }
 
-abbrev pub shape_at : List FilterSlot → ℕ → FilterShape
-shape_at slots k = (get_or slots k (record { shape = Off })).shape
+-- the shape of slot k; off past the last
+abbrev pub shape_at : List FilterShape → ℕ → FilterShape
+shape_at slots k = get_or slots k Off
 
 -- through the first n slots, in their order
-unfoldable pub chained : List FilterSlot → Bool → ℕ → Paired → Paired
+unfoldable pub chained : List FilterShape → Bool → ℕ → Paired → Paired
 chained slots stereo zero s = s
 chained slots stereo (suc n) s = pair_ticked (shape_at slots n) n stereo (chained slots stereo n s)
 
 -- no slot has more than three stages
-abbrev pub AllStages : List FilterSlot → Type 0
+abbrev pub AllStages : List FilterShape → Type 0
 AllStages slots = (k : ℕ) → stage_count (shape_at slots k) ≤ 3

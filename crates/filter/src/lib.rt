@@ -4,7 +4,7 @@
 // so the two uses never meet.
 #![tactic(auto)]
 
-ghost use Rattle.std.specs.Prelude.{◌≡◌, ◌+◌, ◌*◌, ◌≤◌, ◌<◌};
+ghost use Rattle.std.specs.Prelude.{◌≡◌, ◌+◌, ◌*◌, ◌≤◌, ◌<◌, length};
 ghost use Rattle.filter.specs.Filter.{stage_at, stages, stage_count, ticked, pair_ticked, chained, AllStages};
 
 // A biquad's coefficients, divided by a0.
@@ -21,27 +21,11 @@ pub struct Coefficients {
 pub enum FilterShape {
     Off,
     // y = (1 - p) x + p y1
-    Lp1 {
-        p: f32,
-    },
+    Lp1 { p: f32 },
     // y = (1 + p) / 2 (x - x1) + p y1
-    Hp1 {
-        p: f32,
-    },
+    Hp1 { p: f32 },
     // One biquad run `stages` times.
-    Biquad {
-        b0: f32,
-        b1: f32,
-        b2: f32,
-        a1: f32,
-        a2: f32,
-        stages: u8,
-    },
-}
-
-#[derive(Clone, Copy)]
-pub struct FilterSlot {
-    pub shape: FilterShape,
+    Biquad { c: Coefficients, stages: u8 },
 }
 
 // Both channels of a frame.
@@ -52,6 +36,7 @@ pub struct Pair {
 }
 
 // One biquad stage, whose z1 and z2 stand at at and at + 1.
+#[tactic(auto, unfolding(crate::specs::Filter::stage_at))]
 fn stage(states: &mut [f32; 72], at: usize, c: Coefficients, x: f32) -> f32
     requires { at + 1 < 72 }
     ensures { (record { y = result; states = states.new }) ≡ stage_at c at (record { y = x; states = states.old }) }
@@ -65,19 +50,21 @@ fn stage(states: &mut [f32; 72], at: usize, c: Coefficients, x: f32) -> f32
 }
 
 // A biquad run n times, on the places from base on.
+#[tactic(auto, unfolding(crate::specs::Filter::stages))]
 fn biquad(states: &mut [f32; 72], base: usize, c: Coefficients, n: u8, x: f32) -> f32
     requires { (n ≤ 3) × (base + 5 < 72) }
     ensures { (record { y = result; states = states.new }) ≡ stages c base n (record { y = x; states = states.old }) }
 {
     let mut v = x;
-    let count = n as usize;
-    for s in 0..count {
+    for s in 0..usize::from(n) {
         v = stage(states, base + 2 * s, c, v);
     }
     v
 }
 
-// One channel of a frame through a slot, whose places for that channel start at base.
+// One channel of a frame through a slot, whose places for that channel start at base. That it has no more than three stages is asked here
+// and above, and is no type's: a player that is lent may have more, and is then refused, so the shape must be able to say so.
+#[tactic(auto, unfolding(crate::specs::Filter::ticked))]
 pub fn tick(states: &mut [f32; 72], shape: FilterShape, base: usize, x: f32) -> f32
     requires { (stage_count shape ≤ 3) × (base + 5 < 72) }
     ensures { (record { y = result; states = states.new }) ≡ ticked shape base (record { y = x; states = states.old }) }
@@ -99,21 +86,12 @@ pub fn tick(states: &mut [f32; 72], shape: FilterShape, base: usize, x: f32) -> 
             states[base + 1] = y;
             y
         }
-        FilterShape::Biquad {
-            b0,
-            b1,
-            b2,
-            a1,
-            a2,
-            stages,
-        } => {
-            let c = Coefficients { b0, b1, b2, a1, a2 };
-            biquad(states, base, c, stages, x)
-        }
+        FilterShape::Biquad { c, stages } => biquad(states, base, c, stages, x),
     }
 }
 
 // A frame through slot k. The right channel of a mono frame passes by.
+#[tactic(auto, unfolding(crate::specs::Filter::pair_ticked))]
 pub fn tick_pair(
     states: &mut [f32; 72],
     shape: FilterShape,
@@ -132,17 +110,15 @@ pub fn tick_pair(
     Pair { l, r: v.r }
 }
 
-// A frame through the first n slots, in their order: a region's filters, then its equaliser bands.
-pub fn chain(states: &mut [f32; 72], slots: [FilterSlot; 6], n: u8, stereo: bool, v: Pair) -> Pair
-    requires { (n ≤ 6) × AllStages slots }
-    ensures { (record { l = result.l; r = result.r; states = states.new }) ≡ chained slots stereo n (record { l = v.l; r = v.r; states = states.old }) }
+// A frame through slots from the first on, in their order: a region's filters, then its equaliser bands.
+#[tactic(auto, unfolding(crate::specs::Filter::chained))]
+pub fn chain(states: &mut [f32; 72], slots: &[FilterShape], stereo: bool, v: Pair) -> Pair
+    requires { (length slots.now ≤ 6) × AllStages slots.now }
+    ensures { (record { l = result.l; r = result.r; states = states.new }) ≡ chained slots.now stereo (length slots.now) (record { l = v.l; r = v.r; states = states.old }) }
 {
     let mut w = v;
-    let count = n as usize;
-    for k in 0..count {
-        let slot = slots[k];
-        let shape = slot.shape;
-        w = tick_pair(states, shape, k, stereo, w);
+    for (k, shape) in slots.iter().enumerate() {
+        w = tick_pair(states, *shape, k, stereo, w);
     }
     w
 }

@@ -12,7 +12,7 @@ use Rattle.program.specs.declared.region.EqKind.TheVariants.{Peak, LowShelf, Hig
 use Rattle.program.specs.declared.region.Filter.{Filter}
 use Rattle.program.specs.declared.region.EqBand.{EqBand}
 use Rattle.program.specs.declared.region.Region.{Region}
-use Rattle.filter.specs.declared.FilterSlot.{FilterSlot}
+use Rattle.filter.specs.declared.FilterShape.{FilterShape}
 use Rattle.filter.specs.Filter.{stage_count, AllStages}
 use Rattle.filter_design.specs.Slots.{designed, filter_shape, equalized, band_shape, filter_slot, band_slot, run, slot_at, six_of}
 
@@ -38,8 +38,8 @@ equalized-stages Peak freq q gain rate = lit≤ tt
 equalized-stages LowShelf freq q gain rate = lit≤ tt
 equalized-stages HighShelf freq q gain rate = lit≤ tt
 
-abbrev Short : FilterSlot → Type 0
-Short s = stage_count s.shape ≤ 3
+abbrev Short : FilterShape → Type 0
+Short s = stage_count s ≤ 3
 
 filter-short : (note vel : ℕ) (rate : Float) (f : Filter) → Short (filter_slot note vel rate f)
 unfolding filter_shape
@@ -60,7 +60,7 @@ module _ (note vel : ℕ) (rate : Float) where
   all_short (f ∷ fs) bs zero = filter-short note vel rate f
   all_short (f ∷ fs) bs (suc k) = all_short fs bs k
 
-six-short : (l : List FilterSlot) → ((k : ℕ) → Short (slot_at l k)) → AllStages (six_of l).slots
+six-short : (l : List FilterShape) → ((k : ℕ) → Short (slot_at l k)) → AllStages (six_of l).slots
 unfolding six_of
 six-short l h zero = h 0
 six-short l h (suc zero) = h 1
@@ -73,6 +73,6 @@ six-short l h (suc (suc (suc (suc (suc (suc k)))))) = lit≤ tt
 pub built-stages : (x : Region) (note vel : ℕ) (rate : Float) → AllStages (six_of (run x note vel rate)).slots
 built-stages x note vel rate = six-short (run x note vel rate) (all_short note vel rate (take x.filter_count x.filters) (take x.eq_count x.eq))
 
-pub built-count : (l : List FilterSlot) → (six_of l).count ≤ 6
+pub built-count : (l : List FilterShape) → (six_of l).count ≤ 6
 unfolding six_of
 built-count l = omega arith

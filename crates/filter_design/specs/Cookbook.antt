@@ -33,7 +33,7 @@ abbrev pub amplitude : Float → Float
 amplitude gain = pow10_of (gain ⊘ f40)
 
 -- b0, b1 and b2 over the denominator that the first four designs share: a0 = 1 + alpha, a1 = -2 cos w0, a2 = 1 - alpha
-abbrev over : Float → Float → Float → Angle → Unscaled
+abbrev pub over : Float → Float → Float → Angle → Unscaled
 over b0 b1 b2 w = record { b0 = b0; b1 = b1; b2 = b2; a0 = f1 ⊕ w.alpha; a1 = neg f2 ⊗ w.cos_w0; a2 = f1 ⊖ w.alpha }
 
 -- LPF

@@ -11,10 +11,8 @@ use Rattle.program.specs.declared.region.EqKind.TheVariants.{Peak, LowShelf, Hig
 use Rattle.program.specs.declared.region.Filter.{Filter}
 use Rattle.program.specs.declared.region.EqBand.{EqBand}
 use Rattle.program.specs.declared.region.Region.{Region}
-use Rattle.filter.specs.declared.Coefficients.{Coefficients}
 use Rattle.filter.specs.declared.FilterShape.{FilterShape}
 use Rattle.filter.specs.declared.FilterShape.TheVariants.{Off, Lp1, Hp1, Biquad}
-use Rattle.filter.specs.declared.FilterSlot.{FilterSlot}
 use Rattle.exact.specs.Single.{◌⊕◌, ◌⊖◌, ◌⊗◌, ◌⊘◌, single, f0, f0_5, f1}
 use Rattle.gain.specs.Gain.{cents_factor, part}
 use Rattle.filter_design.specs.Cookbook.{f2, tau, angular, angle_of, amplitude, low_pass, high_pass, band_pass, notch, peaking, low_shelf, high_shelf, normalized}
@@ -59,25 +57,21 @@ quality_of resonance = maximum (pow10_of (resonance ⊘ f20)) f0_001
 unfoldable pub pole_of : Float → Float → Float
 pole_of freq rate = exp_of (neg tau ⊗ freq ⊘ rate)
 
--- a biquad run n times
-abbrev pub biquad : Coefficients → ℕ → FilterShape
-biquad c n = Biquad c.b0 c.b1 c.b2 c.a1 c.a2 n
-
 -- two poles for each time that the biquad is run
 unfoldable pub designed : FilterKind → Float → Float → Float → Float → FilterShape
 designed Lpf1p freq q gain rate = Lp1 (pole_of freq rate)
 designed Hpf1p freq q gain rate = Hp1 (pole_of freq rate)
-designed Lpf2p freq q gain rate = biquad (normalized (low_pass (angle_of freq q rate))) 1
-designed Hpf2p freq q gain rate = biquad (normalized (high_pass (angle_of freq q rate))) 1
-designed Bpf2p freq q gain rate = biquad (normalized (band_pass (angle_of freq q rate))) 1
-designed Brf2p freq q gain rate = biquad (normalized (notch (angle_of freq q rate))) 1
-designed Lpf4p freq q gain rate = biquad (normalized (low_pass (angle_of freq q rate))) 2
-designed Hpf4p freq q gain rate = biquad (normalized (high_pass (angle_of freq q rate))) 2
-designed Lpf6p freq q gain rate = biquad (normalized (low_pass (angle_of freq q rate))) 3
-designed Hpf6p freq q gain rate = biquad (normalized (high_pass (angle_of freq q rate))) 3
-designed Peq freq q gain rate = biquad (normalized (peaking (angle_of freq q rate) (amplitude gain))) 1
-designed Lsh freq q gain rate = biquad (normalized (low_shelf (angle_of freq q rate) (amplitude gain))) 1
-designed Hsh freq q gain rate = biquad (normalized (high_shelf (angle_of freq q rate) (amplitude gain))) 1
+designed Lpf2p freq q gain rate = Biquad (normalized (low_pass (angle_of freq q rate))) 1
+designed Hpf2p freq q gain rate = Biquad (normalized (high_pass (angle_of freq q rate))) 1
+designed Bpf2p freq q gain rate = Biquad (normalized (band_pass (angle_of freq q rate))) 1
+designed Brf2p freq q gain rate = Biquad (normalized (notch (angle_of freq q rate))) 1
+designed Lpf4p freq q gain rate = Biquad (normalized (low_pass (angle_of freq q rate))) 2
+designed Hpf4p freq q gain rate = Biquad (normalized (high_pass (angle_of freq q rate))) 2
+designed Lpf6p freq q gain rate = Biquad (normalized (low_pass (angle_of freq q rate))) 3
+designed Hpf6p freq q gain rate = Biquad (normalized (high_pass (angle_of freq q rate))) 3
+designed Peq freq q gain rate = Biquad (normalized (peaking (angle_of freq q rate) (amplitude gain))) 1
+designed Lsh freq q gain rate = Biquad (normalized (low_shelf (angle_of freq q rate) (amplitude gain))) 1
+designed Hsh freq q gain rate = Biquad (normalized (high_shelf (angle_of freq q rate) (amplitude gain))) 1
 
 unfoldable pub filter_shape : Filter → ℕ → ℕ → Float → FilterShape
 filter_shape f note vel rate = designed f.kind (cutoff_of f note vel rate) (quality_of f.resonance) f.gain rate
@@ -96,9 +90,9 @@ unfoldable pub band_quality : Float → Float → Float
 band_quality bw w0 = f1 ⊘ (f2 ⊗ sinh_of (f0_5 ⊗ ln2 ⊗ maximum bw f0_001 ⊗ w0 ⊘ sin_of w0))
 
 unfoldable pub equalized : EqKind → Float → Float → Float → Float → FilterShape
-equalized Peak freq q gain rate = biquad (normalized (peaking (angle_of freq q rate) (amplitude gain))) 1
-equalized LowShelf freq q gain rate = biquad (normalized (low_shelf (angle_of freq q rate) (amplitude gain))) 1
-equalized HighShelf freq q gain rate = biquad (normalized (high_shelf (angle_of freq q rate) (amplitude gain))) 1
+equalized Peak freq q gain rate = Biquad (normalized (peaking (angle_of freq q rate) (amplitude gain))) 1
+equalized LowShelf freq q gain rate = Biquad (normalized (low_shelf (angle_of freq q rate) (amplitude gain))) 1
+equalized HighShelf freq q gain rate = Biquad (normalized (high_shelf (angle_of freq q rate) (amplitude gain))) 1
 
 unfoldable pub band_shape : EqBand → ℕ → Float → FilterShape
 band_shape b vel rate =
@@ -107,25 +101,22 @@ band_shape b vel rate =
 
 -- ---- the slots
 
-abbrev pub slot : FilterShape → FilterSlot
-slot s = record { shape = s }
+abbrev pub filter_slot : ℕ → ℕ → Float → Filter → FilterShape
+filter_slot note vel rate f = filter_shape f note vel rate
 
-abbrev pub filter_slot : ℕ → ℕ → Float → Filter → FilterSlot
-filter_slot note vel rate f = slot (filter_shape f note vel rate)
-
-abbrev pub band_slot : ℕ → Float → EqBand → FilterSlot
-band_slot vel rate b = slot (band_shape b vel rate)
+abbrev pub band_slot : ℕ → Float → EqBand → FilterShape
+band_slot vel rate b = band_shape b vel rate
 
 -- every filter that the region has, then every band
-abbrev pub run : Region → ℕ → ℕ → Float → List FilterSlot
+abbrev pub run : Region → ℕ → ℕ → Float → List FilterShape
 run x note vel rate = map (filter_slot note vel rate) (take x.filter_count x.filters) ++ map (band_slot vel rate) (take x.eq_count x.eq)
 
 -- the k-th of a run; off where it has fewer
-abbrev pub slot_at : List FilterSlot → ℕ → FilterSlot
-slot_at l k = get_or l k (slot Off)
+abbrev pub slot_at : List FilterShape → ℕ → FilterShape
+slot_at l k = get_or l k Off
 
 -- the first six of a run
-unfoldable pub six_of : List FilterSlot → Filters
+unfoldable pub six_of : List FilterShape → Filters
 six_of l = record {
   slots = slot_at l 0 ∷ slot_at l 1 ∷ slot_at l 2 ∷ slot_at l 3 ∷ slot_at l 4 ∷ slot_at l 5 ∷ [];
   count = min (length l) 6;

@@ -1,6 +1,6 @@
 // The biquads of the Audio EQ Cookbook that a region can ask for. Each takes the quality, also the shelves.
 ghost use Rattle.std.specs.Prelude.{◌≡◌};
-ghost use Rattle.filter_design.specs.Cookbook.{angle_of, amplitude, normalized, low_pass, high_pass, band_pass, notch, peaking, low_shelf, high_shelf};
+ghost use Rattle.filter_design.specs.Cookbook.{angle_of, amplitude, normalized, over, low_pass, high_pass, band_pass, notch, peaking, low_shelf, high_shelf};
 
 use elementary::power::pow10;
 use elementary::trig::{cos, sin};
@@ -10,10 +10,26 @@ use filter::Coefficients;
 pub(crate) const TAU: f32 = 6.2831855;
 
 // What the designs share: cos w0, and alpha = sin w0 / (2 q).
-#[derive(Drop)]
+#[derive(Clone, Copy)]
 pub struct Angle {
     pub cos_w0: f32,
     pub alpha: f32,
+}
+
+impl Angle {
+    // b0, b1 and b2 over the denominator of the designs without a gain.
+    fn over(self, b0: f32, b1: f32, b2: f32) -> Coefficients
+        ensures { result ≡ normalized (over b0 b1 b2 self) }
+    {
+        normalize(Unscaled {
+            b0,
+            b1,
+            b2,
+            a0: 1.0 + self.alpha,
+            a1: -2.0 * self.cos_w0,
+            a2: 1.0 - self.alpha,
+        })
+    }
 }
 
 // A biquad's six coefficients, before they are divided by a0.
@@ -27,6 +43,7 @@ pub struct Unscaled {
     pub a2: f32,
 }
 
+#[tactic(auto, unfolding(crate::specs::Cookbook::angle_of))]
 fn biquad_params(freq: f32, q: f32, sample_rate: f32) -> Angle
     ensures { result ≡ angle_of freq q sample_rate }
 {
@@ -39,6 +56,7 @@ fn biquad_params(freq: f32, q: f32, sample_rate: f32) -> Angle
     }
 }
 
+#[tactic(auto, unfolding(crate::specs::Cookbook::normalized))]
 fn normalize(u: Unscaled) -> Coefficients
     ensures { result ≡ normalized u }
 {
@@ -52,64 +70,41 @@ fn normalize(u: Unscaled) -> Coefficients
     }
 }
 
+#[tactic(auto, unfolding(crate::specs::Cookbook::low_pass))]
 pub fn biquad_lpf_coeffs(freq: f32, q: f32, sample_rate: f32) -> Coefficients
     ensures { result ≡ normalized (low_pass (angle_of freq q sample_rate)) }
 {
     let w = biquad_params(freq, q, sample_rate);
     let b0 = (1.0 - w.cos_w0) / 2.0;
-    normalize(Unscaled {
-        b0,
-        b1: 1.0 - w.cos_w0,
-        b2: b0,
-        a0: 1.0 + w.alpha,
-        a1: -2.0 * w.cos_w0,
-        a2: 1.0 - w.alpha,
-    })
+    w.over(b0, 1.0 - w.cos_w0, b0)
 }
 
+#[tactic(auto, unfolding(crate::specs::Cookbook::high_pass))]
 pub fn biquad_hpf_coeffs(freq: f32, q: f32, sample_rate: f32) -> Coefficients
     ensures { result ≡ normalized (high_pass (angle_of freq q sample_rate)) }
 {
     let w = biquad_params(freq, q, sample_rate);
     let b0 = (1.0 + w.cos_w0) / 2.0;
-    normalize(Unscaled {
-        b0,
-        b1: -(1.0 + w.cos_w0),
-        b2: b0,
-        a0: 1.0 + w.alpha,
-        a1: -2.0 * w.cos_w0,
-        a2: 1.0 - w.alpha,
-    })
+    w.over(b0, -(1.0 + w.cos_w0), b0)
 }
 
+#[tactic(auto, unfolding(crate::specs::Cookbook::band_pass))]
 pub fn biquad_bpf_coeffs(freq: f32, q: f32, sample_rate: f32) -> Coefficients
     ensures { result ≡ normalized (band_pass (angle_of freq q sample_rate)) }
 {
     let w = biquad_params(freq, q, sample_rate);
-    normalize(Unscaled {
-        b0: w.alpha,
-        b1: 0.0,
-        b2: -w.alpha,
-        a0: 1.0 + w.alpha,
-        a1: -2.0 * w.cos_w0,
-        a2: 1.0 - w.alpha,
-    })
+    w.over(w.alpha, 0.0, -w.alpha)
 }
 
+#[tactic(auto, unfolding(crate::specs::Cookbook::notch))]
 pub fn biquad_notch_coeffs(freq: f32, q: f32, sample_rate: f32) -> Coefficients
     ensures { result ≡ normalized (notch (angle_of freq q sample_rate)) }
 {
     let w = biquad_params(freq, q, sample_rate);
-    normalize(Unscaled {
-        b0: 1.0,
-        b1: -2.0 * w.cos_w0,
-        b2: 1.0,
-        a0: 1.0 + w.alpha,
-        a1: -2.0 * w.cos_w0,
-        a2: 1.0 - w.alpha,
-    })
+    w.over(1.0, -2.0 * w.cos_w0, 1.0)
 }
 
+#[tactic(auto, unfolding(crate::specs::Cookbook::peaking))]
 pub fn biquad_peaking_coeffs(freq: f32, q: f32, gain_db: f32, sample_rate: f32) -> Coefficients
     ensures { result ≡ normalized (peaking (angle_of freq q sample_rate) (amplitude gain_db)) }
 {
@@ -125,6 +120,8 @@ pub fn biquad_peaking_coeffs(freq: f32, q: f32, gain_db: f32, sample_rate: f32) 
     })
 }
 
+// The two shelves stay apart, term by term as the cookbook prints them: one for both would take six signs.
+#[tactic(auto, unfolding(crate::specs::Cookbook::low_shelf))]
 pub fn biquad_low_shelf_coeffs(freq: f32, q: f32, gain_db: f32, sample_rate: f32) -> Coefficients
     ensures { result ≡ normalized (low_shelf (angle_of freq q sample_rate) (amplitude gain_db)) }
 {
@@ -141,6 +138,7 @@ pub fn biquad_low_shelf_coeffs(freq: f32, q: f32, gain_db: f32, sample_rate: f32
     })
 }
 
+#[tactic(auto, unfolding(crate::specs::Cookbook::high_shelf))]
 pub fn biquad_high_shelf_coeffs(freq: f32, q: f32, gain_db: f32, sample_rate: f32) -> Coefficients
     ensures { result ≡ normalized (high_shelf (angle_of freq q sample_rate) (amplitude gain_db)) }
 {

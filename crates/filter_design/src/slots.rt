@@ -1,6 +1,6 @@
 // A region's filters and equaliser bands for one note at one rate, in the six slots of a player.
-ghost use Rattle.std.specs.Prelude.{◌≡◌, min};
-ghost use Rattle.filter_design.specs.Slots.{cutoff_of, quality_of, pole_of, biquad, designed, filter_shape, band_quality, equalized, band_shape, run, slot_at, six_of};
+ghost use Rattle.std.specs.Prelude.{◌≡◌, ◌++◌, map, take};
+ghost use Rattle.filter_design.specs.Slots.{cutoff_of, quality_of, pole_of, designed, filter_shape, band_quality, equalized, band_shape, filter_slot, band_slot, run, slot_at, six_of};
 
 use crate::cookbook::{
     TAU, biquad_bpf_coeffs, biquad_high_shelf_coeffs, biquad_hpf_coeffs, biquad_low_shelf_coeffs,
@@ -11,7 +11,7 @@ use elementary::power::{exp, pow10};
 use elementary::trig::sin;
 use exact::cast::u32_to_f32;
 use exact::order::{clamp_f32, max_f32, min_f32};
-use filter::{Coefficients, FilterShape, FilterSlot};
+use filter::{Coefficients, FilterShape};
 use gain::cents_factor;
 use program::region::{EqBand, EqKind, Filter, FilterKind, Region};
 
@@ -20,11 +20,12 @@ const LN_2: f32 = 0.6931472;
 // The slots, and how many of them are in use.
 #[derive(Drop)]
 pub struct Filters {
-    pub slots: [FilterSlot; 6],
+    pub slots: [FilterShape; 6],
     pub count: u8,
 }
 
 // The cutoff for a note and a velocity, from 1 Hz up to 20 kHz or just below half the rate.
+#[tactic(auto, unfolding(crate::specs::Slots::cutoff_of))]
 fn cutoff_of(f: Filter, note: u8, vel: u8, sr: f32) -> f32
     ensures { result ≡ cutoff_of f note vel sr }
 {
@@ -34,31 +35,27 @@ fn cutoff_of(f: Filter, note: u8, vel: u8, sr: f32) -> f32
     max_f32(min_f32(clamp_f32(cutoff, 0.0, 20000.0), 0.499 * sr), 1.0)
 }
 
+#[tactic(auto, unfolding(crate::specs::Slots::quality_of))]
 fn quality_of(resonance: f32) -> f32
     ensures { result ≡ quality_of resonance }
 {
     max_f32(pow10(resonance / 20.0), 1e-3)
 }
 
+#[tactic(auto, unfolding(crate::specs::Slots::pole_of))]
 fn pole_of(freq: f32, sr: f32) -> f32
     ensures { result ≡ pole_of freq sr }
 {
     exp(-TAU * freq / sr)
 }
 
-fn staged(c: Coefficients, stages: u8) -> FilterShape
-    ensures { result ≡ biquad c stages }
+fn biquad(c: Coefficients, stages: u8) -> FilterShape
+    ensures { result ≡ FilterShape.Biquad c stages }
 {
-    FilterShape::Biquad {
-        b0: c.b0,
-        b1: c.b1,
-        b2: c.b2,
-        a1: c.a1,
-        a2: c.a2,
-        stages,
-    }
+    FilterShape::Biquad { c, stages }
 }
 
+#[tactic(auto, unfolding(crate::specs::Slots::designed))]
 fn designed_shape(kind: FilterKind, freq: f32, q: f32, gain: f32, sr: f32) -> FilterShape
     ensures { result ≡ designed kind freq q gain sr }
 {
@@ -69,21 +66,22 @@ fn designed_shape(kind: FilterKind, freq: f32, q: f32, gain: f32, sr: f32) -> Fi
         FilterKind::Hpf1p => FilterShape::Hp1 {
             p: pole_of(freq, sr),
         },
-        FilterKind::Lpf2p => staged(biquad_lpf_coeffs(freq, q, sr), 1),
-        FilterKind::Hpf2p => staged(biquad_hpf_coeffs(freq, q, sr), 1),
-        FilterKind::Bpf2p => staged(biquad_bpf_coeffs(freq, q, sr), 1),
-        FilterKind::Brf2p => staged(biquad_notch_coeffs(freq, q, sr), 1),
-        FilterKind::Lpf4p => staged(biquad_lpf_coeffs(freq, q, sr), 2),
-        FilterKind::Hpf4p => staged(biquad_hpf_coeffs(freq, q, sr), 2),
-        FilterKind::Lpf6p => staged(biquad_lpf_coeffs(freq, q, sr), 3),
-        FilterKind::Hpf6p => staged(biquad_hpf_coeffs(freq, q, sr), 3),
-        FilterKind::Peq => staged(biquad_peaking_coeffs(freq, q, gain, sr), 1),
-        FilterKind::Lsh => staged(biquad_low_shelf_coeffs(freq, q, gain, sr), 1),
-        FilterKind::Hsh => staged(biquad_high_shelf_coeffs(freq, q, gain, sr), 1),
+        FilterKind::Lpf2p => biquad(biquad_lpf_coeffs(freq, q, sr), 1),
+        FilterKind::Hpf2p => biquad(biquad_hpf_coeffs(freq, q, sr), 1),
+        FilterKind::Bpf2p => biquad(biquad_bpf_coeffs(freq, q, sr), 1),
+        FilterKind::Brf2p => biquad(biquad_notch_coeffs(freq, q, sr), 1),
+        FilterKind::Lpf4p => biquad(biquad_lpf_coeffs(freq, q, sr), 2),
+        FilterKind::Hpf4p => biquad(biquad_hpf_coeffs(freq, q, sr), 2),
+        FilterKind::Lpf6p => biquad(biquad_lpf_coeffs(freq, q, sr), 3),
+        FilterKind::Hpf6p => biquad(biquad_hpf_coeffs(freq, q, sr), 3),
+        FilterKind::Peq => biquad(biquad_peaking_coeffs(freq, q, gain, sr), 1),
+        FilterKind::Lsh => biquad(biquad_low_shelf_coeffs(freq, q, gain, sr), 1),
+        FilterKind::Hsh => biquad(biquad_high_shelf_coeffs(freq, q, gain, sr), 1),
     }
 }
 
 // One filter's shape for a note at a velocity.
+#[tactic(auto, unfolding(crate::specs::Slots::filter_shape))]
 pub fn filter_shape(f: Filter, note: u8, vel: u8, sr: f32) -> FilterShape
     ensures { result ≡ filter_shape f note vel sr }
 {
@@ -94,23 +92,26 @@ pub fn filter_shape(f: Filter, note: u8, vel: u8, sr: f32) -> FilterShape
 }
 
 // The quality of a band bw octaves wide around w0.
+#[tactic(auto, unfolding(crate::specs::Slots::band_quality))]
 fn band_quality(bw: f32, w0: f32) -> f32
     ensures { result ≡ band_quality bw w0 }
 {
     1.0 / (2.0 * sinh(0.5 * LN_2 * max_f32(bw, 1e-3) * w0 / sin(w0)))
 }
 
+#[tactic(auto, unfolding(crate::specs::Slots::equalized))]
 fn equalized_shape(kind: EqKind, freq: f32, q: f32, gain: f32, sr: f32) -> FilterShape
     ensures { result ≡ equalized kind freq q gain sr }
 {
     match kind {
-        EqKind::Peak => staged(biquad_peaking_coeffs(freq, q, gain, sr), 1),
-        EqKind::LowShelf => staged(biquad_low_shelf_coeffs(freq, q, gain, sr), 1),
-        EqKind::HighShelf => staged(biquad_high_shelf_coeffs(freq, q, gain, sr), 1),
+        EqKind::Peak => biquad(biquad_peaking_coeffs(freq, q, gain, sr), 1),
+        EqKind::LowShelf => biquad(biquad_low_shelf_coeffs(freq, q, gain, sr), 1),
+        EqKind::HighShelf => biquad(biquad_high_shelf_coeffs(freq, q, gain, sr), 1),
     }
 }
 
 // One equaliser band's shape at a velocity.
+#[tactic(auto, unfolding(crate::specs::Slots::band_shape, crate::specs::Slots::band_frequency))]
 pub fn band_shape(b: EqBand, vel: u8, sr: f32) -> FilterShape
     ensures { result ≡ band_shape b vel sr }
 {
@@ -122,49 +123,45 @@ pub fn band_shape(b: EqBand, vel: u8, sr: f32) -> FilterShape
     equalized_shape(kind, freq, q, gain, sr)
 }
 
-// How many of six places a count takes in.
-fn in_use(n: u32) -> usize
-    ensures { result ≡ min n 6 }
+// The places that a count takes in.
+fn in_use<T>(places: &[T], count: u32) -> &[T]
+    ensures { result.now ≡ take count places.now }
 {
-    if n < 6 { n as usize } else { 6 }
+    let n = places.len().min(count as usize);
+    &places[..n]
 }
 
-// Slot k: the region's filters, then its bands, then nothing.
-fn slot_at(region: Region, k: usize, note: u8, vel: u8, sr: f32) -> FilterSlot
-    ensures { result ≡ slot_at (run region note vel sr) k }
+// Slot k: the filters, then the bands, then nothing.
+fn slot_at(
+    filters: &[Filter],
+    bands: &[EqBand],
+    k: usize,
+    note: u8,
+    vel: u8,
+    sr: f32,
+) -> FilterShape
+    ensures { result ≡ slot_at (map (filter_slot note vel sr) filters.now ++ map (band_slot vel sr) bands.now) k }
 {
-    let filters = in_use(region.filter_count);
-    if k < filters {
-        let fs = region.filters;
-        return FilterSlot {
-            shape: filter_shape(fs[k], note, vel, sr),
-        };
+    if k < filters.len() {
+        return filter_shape(filters[k], note, vel, sr);
     }
-    let j = k - filters;
-    if j < in_use(region.eq_count) {
-        let bs = region.eq;
-        return FilterSlot {
-            shape: band_shape(bs[j], vel, sr),
-        };
+    let j = k - filters.len();
+    if j < bands.len() {
+        return band_shape(bands[j], vel, sr);
     }
-    FilterSlot {
-        shape: FilterShape::Off,
-    }
+    FilterShape::Off
 }
 
 // The filters before the bands, six in all; what is past the sixth is left out.
 pub fn build_filters(region: Region, note: u8, vel: u8, sr: f32) -> Filters
     ensures { result ≡ six_of (run region note vel sr) }
 {
-    let slots = [
-        slot_at(region, 0, note, vel, sr),
-        slot_at(region, 1, note, vel, sr),
-        slot_at(region, 2, note, vel, sr),
-        slot_at(region, 3, note, vel, sr),
-        slot_at(region, 4, note, vel, sr),
-        slot_at(region, 5, note, vel, sr),
-    ];
-    let n = in_use(region.filter_count) + in_use(region.eq_count);
-    let count = if n < 6 { n as u8 } else { 6 };
+    let filters = in_use(&region.filters, region.filter_count);
+    let bands = in_use(&region.eq, region.eq_count);
+    let mut slots = [FilterShape::Off; 6];
+    for (k, slot) in slots.iter_mut().enumerate() {
+        *slot = slot_at(filters, bands, k, note, vel, sr);
+    }
+    let count = (filters.len() + bands.len()).min(6) as u8;
     Filters { slots, count }
 }

@@ -1,5 +1,5 @@
 // The seven float functions under plain names, for programs in other languages: the Rust linked with these calls the port's
-// own, so that every bit of the two can be compared.
+// own, so that every bit of the two can be compared. Each C name needs its function.
 #![tactic(auto)]
 
 ghost use Rattle.std.specs.Prelude.{◌≡◌};

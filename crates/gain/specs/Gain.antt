@@ -1,17 +1,13 @@
 -- How loud a region plays and where: SFZ's `amp_veltrack`, `xfin_*vel` and `xfout_*vel`, `pan` and `width`, as sfizz has them, in single precision. Each operation is
 -- rounded on its own, in the order written. Definitions only.
-use Rattle.std.specs.Prelude.{ℕ, Bool, true, false, ◌&&◌, cond, Float}
+use Rattle.std.specs.Prelude.{ℕ, Bool, true, false, ◌&&◌, cond, Float, None, Option, Some}
 use Rattle.std.specs.Float.{binary32}
 use Rattle.std.specs.Float.Ieee.{lt, of_bits}
 use Rattle.exact.specs.Order.{magnitude, clamped}
 use Rattle.exact.specs.Root.{square_root}
 use Rattle.elementary.specs.Functions.{exp2_of, sin_of, cos_of}
 use Rattle.program.specs.declared.region.VelCrossfade.{VelCrossfade}
-use Rattle.program.specs.declared.region.XfVel.{XfVel}
-use Rattle.program.specs.declared.region.XfVel.TheVariants.{NoCrossfade, Crossfade}
 use Rattle.exact.specs.Single.{◌⊕◌, ◌⊖◌, ◌⊗◌, ◌⊘◌, single, f0, f0_5, f1, f100, f127, f1200}
-use Rattle.gain.specs.declared.Curve.{Curve}
-use Rattle.gain.specs.declared.Curve.TheVariants.{NoCurve, At}
 use Rattle.gain.specs.declared.Matrix.{Matrix}
 
 -- ---- cents
@@ -27,16 +23,16 @@ abbrev pub part : ℕ → Float
 part v = single v ⊘ f127
 
 -- what the velocity curve gives: its value, or the part's square where the region has none
-abbrev pub curve_gain : Curve → ℕ → Float
-curve_gain NoCurve v = part v ⊗ part v
-curve_gain (At g) v = g
+abbrev pub curve_gain : Option Float → ℕ → Float
+curve_gain None v = part v ⊗ part v
+curve_gain (Some g) v = g
 
 -- what `amp_veltrack`, t percent, takes away at the curve's gain g
 abbrev pub taken : Float → Float → Float
 taken t g = magnitude (t ⊘ f100) ⊗ (f1 ⊖ g)
 
--- At 100 percent the gain is the curve's, at 0 it is 1; below 0 the loud are taken away instead of the soft.
-unfoldable pub velocity_gain : Float → Curve → ℕ → Float
+-- Some 100 percent the gain is the curve's, at 0 it is 1; below 0 the loud are taken away instead of the soft.
+unfoldable pub velocity_gain : Float → Option Float → ℕ → Float
 velocity_gain t c v = cond (lt (t ⊘ f100) f0) (taken t (curve_gain c v)) (f1 ⊖ taken t (curve_gain c v))
 
 -- ---- crossfades by velocity
@@ -67,10 +63,10 @@ unfoldable pub faded_out : VelCrossfade → Float → Float → Float
 faded_out x v g =
     cond (lt f0 (fade_length x.out_lo x.out_hi) && lt x.out_lo v) (g ⊗ fade_rest x.gain_curve (fade_position x.out_lo x.out_hi v)) g
 
-unfoldable pub crossfade_gain : XfVel → ℕ → Float
+unfoldable pub crossfade_gain : Option VelCrossfade → ℕ → Float
 unfolding faded_in faded_out
-crossfade_gain NoCrossfade v = f1
-crossfade_gain (Crossfade x) v = faded_out x (single v) (faded_in x (single v) f1)
+crossfade_gain None v = f1
+crossfade_gain (Some x) v = faded_out x (single v) (faded_in x (single v) f1)
 
 -- ---- pan and width
 

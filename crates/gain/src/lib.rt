@@ -9,7 +9,7 @@ use elementary::trig::{cos, sin};
 use exact::cast::u32_to_f32;
 use exact::order::{abs_f32, clamp_f32};
 use exact::root::sqrt_f32;
-use program::region::{VelCrossfade, XfVel};
+use program::region::VelCrossfade;
 
 const FRAC_PI_2: f32 = 1.5707964;
 
@@ -19,13 +19,6 @@ const FRAC_1_SQRT_2: f32 = 0.70710677;
 const MONO_PAN_GAIN: f32 = 1.4125375;
 
 const STEREO_PAN_GAIN: f32 = 1.9952623;
-
-// What the region's velocity curve gives at the note's velocity.
-#[derive(Drop)]
-pub enum Curve {
-    NoCurve,
-    At(f32),
-}
 
 // out_l = ll l + rl r, out_r = lr l + rr r.
 #[derive(Drop)]
@@ -44,12 +37,12 @@ pub fn cents_factor(c: f32) -> f32
 }
 
 // The curve's gain, or the square of vel / 127.
-fn curve_gain(curve: Curve, vel: u8) -> f32
+fn curve_gain(curve: Option<f32>, vel: u8) -> f32
     ensures { result ≡ curve_gain curve vel }
 {
     match curve {
-        Curve::At(g) => g,
-        Curve::NoCurve => {
+        Some(g) => g,
+        None => {
             let v = u32_to_f32(vel as u32) / 127.0;
             v * v
         }
@@ -57,7 +50,7 @@ fn curve_gain(curve: Curve, vel: u8) -> f32
 }
 
 // The curve's gain, scaled by amp_veltrack.
-pub fn velocity_gain(amp_veltrack: f32, curve: Curve, vel: u8) -> f32
+pub fn velocity_gain(amp_veltrack: f32, curve: Option<f32>, vel: u8) -> f32
     ensures { result ≡ velocity_gain amp_veltrack curve vel }
 {
     let vt = amp_veltrack / 100.0;
@@ -100,12 +93,12 @@ fn fade_out(xf: VelCrossfade, v: f32, g: f32) -> f32
 }
 
 // The gain of the region's velocity crossfade.
-pub fn xf_gain(xf: XfVel, vel: u8) -> f32
+pub fn xf_gain(xf: Option<VelCrossfade>, vel: u8) -> f32
     ensures { result ≡ crossfade_gain xf vel }
 {
     match xf {
-        XfVel::NoCrossfade => 1.0,
-        XfVel::Crossfade(x) => {
+        None => 1.0,
+        Some(x) => {
             let v = u32_to_f32(vel as u32);
             fade_out(x, v, fade_in(x, v, 1.0))
         }

@@ -1,4 +1,7 @@
 -- What off marks and a gate's edges leave as it was, for the account of a whole run. Assumes nothing.
+use Rattle.std.specs.List.{list_any}
+use Rattle.std.proofs.Common.{None, Option, Some, cond, filter}
+use Rattle.session.specs.declared.Off.{Off}
 use Prim.Native.Nat.{ℕ, zero, suc, ◌≤◌}
 use mathlib.Core.Path.{◌≡◌, refl, ap, ◌∙◌}
 use mathlib.Core.Bool.{Bool, true, false, not}
@@ -10,15 +13,11 @@ use Rattle.players.specs.Seats.{sounding, is_over, reaped}
 use Rattle.players.specs.declared.Offed.{Offed}
 use Rattle.players.specs.declared.Released.{Released}
 use Rattle.session.proofs.Laws.{along-length, first-along}
-use Rattle.session.proofs.Relist.{relist-size, view-few}
-use Rattle.session.proofs.Voices.{keep-fewer}
-use Rattle.session.specs.Lists.{pick, any, keep}
+use Rattle.session.proofs.Relist.{relist-size, view-few, keep-fewer}
 use Rattle.session.specs.Offs.{took_first}
 use Rattle.session.specs.Records.{in_slots}
 use Rattle.session.specs.Rules.{collect_first, without_slots}
 use Rattle.session.specs.State.{view, relist, slot_list, held_down, with_seq}
-use Rattle.session.specs.declared.FirstOff.{FirstOff}
-use Rattle.session.specs.declared.FirstOff.TheVariants.{Nothing, Taken}
 use Rattle.session.specs.declared.PlayerRecord.{PlayerRecord}
 use Rattle.note.specs.Choice.{choosing_on}
 use Rattle.note.specs.Note.{note_state}
@@ -106,16 +105,16 @@ release-stays k m at b =
 
 pub reap-stays : (b : Both) → Stays b (reaped_both b)
 unfolding reaped_both without_slots
-reap-stays b = by-case (any is_over (sounding b.voice.players)) where
-  few : length (keep (λ (r : PlayerRecord). not (in_slots b.voice.voice (slot_list (reaped b.voice.players).gone) r)) (view b.session)) ≤ 512
+reap-stays b = by-case (list_any is_over (sounding b.voice.players)) where
+  few : length (filter (λ (r : PlayerRecord). not (in_slots b.voice.voice (slot_list (reaped b.voice.players).gone) r)) (view b.session)) ≤ 512
   few =
       let p : PlayerRecord → Bool = λ r. not (in_slots b.voice.voice (slot_list (reaped b.voice.players).gone) r) in
       omega (arith, keep-fewer p (view b.session), view-few b.session)
 
   by-case : (t : Bool)
-      → Stays b (pick t (both (without_players b.voice.voice (reaped b.voice.players) b.session) (with_players (reaped b.voice.players).players b.voice)) b)
+      → Stays b (cond t (both (without_players b.voice.voice (reaped b.voice.players) b.session) (with_players (reaped b.voice.players).players b.voice)) b)
   by-case true =
-      let x = relist-stays b (keep (λ (r : PlayerRecord). not (in_slots b.voice.voice (slot_list (reaped b.voice.players).gone) r)) (view b.session)) few in
+      let x = relist-stays b (filter (λ (r : PlayerRecord). not (in_slots b.voice.voice (slot_list (reaped b.voice.players).gone) r)) (view b.session)) few in
       record {
         seq = refl;
         voices = refl;
@@ -134,7 +133,7 @@ module _ (k : Kit) (m : ℕ) where
   choke-stays : (at : ℕ) (fires : Bool) (b : Both) → Stays b (choke_fires k m at fires b)
   unfolding choke_fires
   choke-stays at fires b = by-case (may_fire fires b.voice) where
-    by-case : (t : Bool) → Stays b (pick t (dispatched_release k m at (both b.session (with_note (fired_note b.voice.note) b.voice))) b)
+    by-case : (t : Bool) → Stays b (cond t (dispatched_release k m at (both b.session (with_note (fired_note b.voice.note) b.voice))) b)
     by-case true =
         let x = release-stays k m at (both b.session (with_note (fired_note b.voice.note) b.voice)) in
         record {
@@ -154,7 +153,7 @@ module _ (k : Kit) (m : ℕ) where
   pub off-stays : (slot at : ℕ) (b : Both) → Stays b (applied_off k m slot at b)
   unfolding applied_off
   off-stays slot at b = by-case (offed_slot slot b.voice.players) (offed_slot slot b.voice.players).ignored where
-    by-case : (o : Offed) (t : Bool) → Stays b (pick t b (choke_fires k m at o.fires (reaped_both (both b.session (with_players o.players b.voice)))))
+    by-case : (o : Offed) (t : Bool) → Stays b (cond t b (choke_fires k m at o.fires (reaped_both (both b.session (with_players o.players b.voice)))))
     by-case o true = stays_same b
     by-case o false =
         let c = both b.session (with_players o.players b.voice) in
@@ -172,9 +171,9 @@ module _ (k : Kit) (m : ℕ) where
           started = x.started;
         }
 
-  acts-stays : (f : FirstOff) (b : Both) → Stays b (acts_on k m f b)
-  acts-stays Nothing b = stays_same b
-  acts-stays (Taken o) b = off-stays o.slot o.at b
+  acts-stays : (f : Option Off) (b : Both) → Stays b (acts_on k m f b)
+  acts-stays None b = stays_same b
+  acts-stays (Some o) b = off-stays o.slot o.at b
 
   took-stays : (b : Both) → Stays b (took_own k m b)
   unfolding took_own took_first
@@ -187,7 +186,7 @@ module _ (k : Kit) (m : ℕ) where
   unfolding own_offs
   own-stays zero b = stays_same b
   own-stays (suc n) b = by-case (owns b) (own-stays n (took_own k m b)) where
-    by-case : (t : Bool) → Stays (took_own k m b) (own_offs k m n (took_own k m b)) → Stays b (pick t (own_offs k m n (took_own k m b)) b)
+    by-case : (t : Bool) → Stays (took_own k m b) (own_offs k m n (took_own k m b)) → Stays b (cond t (own_offs k m n (took_own k m b)) b)
     by-case true rest = stays_then (took-stays b) rest
     by-case false rest = stays_same b
 
@@ -225,7 +224,7 @@ module _ (k : Kit) (m : ℕ) where
   unfolding let_go_both
   let-go-stays b = by-case (released_all b.voice.players) (released_all b.voice.players).killed where
     by-case : (o : Released) (t : Bool)
-        → Stays b (pick t (reaped_both (both b.session (with_players o.players b.voice))) (both b.session (with_players o.players b.voice)))
+        → Stays b (cond t (reaped_both (both b.session (with_players o.players b.voice))) (both b.session (with_players o.players b.voice)))
     by-case o true =
         let x = reap-stays (both b.session (with_players o.players b.voice)) in
         record {
@@ -262,4 +261,4 @@ module _ (k : Kit) (m : ℕ) where
   -- one that was not held changes nothing
   pub off-not-held : (at : ℕ) (b : Both) → b.voice.gate_held ≡ false → noted_off k m at b ≡ b
   unfolding noted_off
-  off-not-held at b h = ap (λ t. pick t (let_go_note k m at b) b) h
+  off-not-held at b h = ap (λ t. cond t (let_go_note k m at b) b) h

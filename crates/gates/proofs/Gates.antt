@@ -1,4 +1,5 @@
 -- What `note_on` and `note_off` put together. Assumes nothing.
+use Rattle.std.specs.Prelude.{cond}
 use Prim.Native.Nat.{ℕ, ◌≤◌}
 use mathlib.Core.Path.{◌≡◌, sym, ap, ◌∙◌}
 use mathlib.Core.Bool.{true, false}
@@ -6,7 +7,6 @@ use native.Mathlib.Omega.{arith}
 use lib.ListN.{length}
 use Rattle.players.specs.Gate.{released_all}
 use Rattle.players.specs.declared.Released.{Released}
-use Rattle.session.specs.Lists.{pick}
 use Rattle.session.specs.State.{with_seq, held_down}
 use Rattle.session.specs.declared.Session.{Session}
 use Rattle.note.proofs.Laws.{chosen-list, on-few}
@@ -70,22 +70,22 @@ module _ (s : Session) (v : SampleVoice) (o : Released) (told : o ≡ released_a
   unfolding let_go_both
   killed-leave h r e =
       e ∙ ap (λ x. reaped_both (both s x)) now-less
-      ∙ sym (ap (λ (x : Released). pick x.killed (reaped_both (kept x)) (kept x)) (sym told) ∙ ap (λ t. pick t (reaped_both (kept o)) (kept o)) h)
+      ∙ sym (ap (λ (x : Released). cond x.killed (reaped_both (kept x)) (kept x)) (sym told) ∙ ap (λ t. cond t (reaped_both (kept o)) (kept o)) h)
 
   pub none-killed : o.killed ≡ false → both s w ≡ let_go_both (both s v)
   unfolding let_go_both
   none-killed h =
       ap (both s) now-less
-      ∙ sym (ap (λ (x : Released). pick x.killed (reaped_both (kept x)) (kept x)) (sym told) ∙ ap (λ t. pick t (reaped_both (kept o)) (kept o)) h)
+      ∙ sym (ap (λ (x : Released). cond x.killed (reaped_both (kept x)) (kept x)) (sym told) ∙ ap (λ t. cond t (reaped_both (kept o)) (kept o)) h)
 
 module _ (k : Kit) (m at : ℕ) (s : Session) (v : SampleVoice) where
   pub not-held : v.gate_held ≡ false → both s v ≡ noted_off k m at (both s v)
   unfolding noted_off
-  not-held h = sym (ap (λ t. pick t (let_go_note k m at (both s v)) (both s v)) h)
+  not-held h = sym (ap (λ t. cond t (let_go_note k m at (both s v)) (both s v)) h)
 
   pub let-go-note : v.gate_held ≡ true → (t : Session) → t ≡ held_down s → (w : SampleVoice) → w ≡ ungated v → (b : Both) → b ≡ let_go_both (both t w)
       → (r : Both) → r ≡ dispatched_release k m at b → r ≡ noted_off k m at (both s v)
   unfolding noted_off let_go_note
   let-go-note h t e w f b g r z =
       z ∙ ap (dispatched_release k m at) (g ∙ ap (λ x. let_go_both (both x w)) e ∙ ap (λ x. let_go_both (both (held_down s) x)) f)
-      ∙ sym (ap (λ t. pick t (dispatched_release k m at (let_go_both (both (held_down s) (ungated v)))) (both s v)) h)
+      ∙ sym (ap (λ t. cond t (dispatched_release k m at (let_go_both (both (held_down s) (ungated v)))) (both s v)) h)

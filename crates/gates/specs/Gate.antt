@@ -1,9 +1,8 @@
 -- A rising gate and a falling one. Definitions only.
-use Rattle.std.specs.Prelude.{ℕ, true, List}
+use Rattle.std.specs.Prelude.{ℕ, true, List, cond}
 use Rattle.exact.specs.Random.{drawn}
 use Rattle.exact.specs.Single.{f0}
 use Rattle.players.specs.Gate.{released_all}
-use Rattle.session.specs.Lists.{pick}
 use Rattle.session.specs.State.{serial_up, held_up, held_down, with_seq}
 use Rattle.session.specs.declared.Session.{Session}
 use Rattle.note.specs.Note.{note_state}
@@ -43,11 +42,11 @@ unfoldable pub let_go_both : Both → Both
 let_go_both b =
     let r = released_all b.voice.players in
     let c : Both = record { session = b.session; voice = with_players r.players b.voice } in
-    pick r.killed (reaped_both c) c
+    cond r.killed (reaped_both c) c
 
 -- a falling gate that was held: one held gate less, the players let go, the release regions
 unfoldable pub let_go_note : Kit → ℕ → ℕ → Both → Both
 let_go_note k m at b = dispatched_release k m at (let_go_both (record { session = held_down b.session; voice = ungated b.voice }))
 
 unfoldable pub noted_off : Kit → ℕ → ℕ → Both → Both
-noted_off k m at b = pick b.voice.gate_held (let_go_note k m at b) b
+noted_off k m at b = cond b.voice.gate_held (let_go_note k m at b) b

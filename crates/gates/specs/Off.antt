@@ -1,18 +1,15 @@
 -- Players that end, and off marks that act. Definitions only.
-use Rattle.std.specs.Prelude.{ℕ, zero, suc, Bool, true, false, not, ◌&&◌}
+use Rattle.std.specs.List.{list_any}
+use Rattle.session.specs.declared.Off.{Off}
+use Rattle.std.specs.Prelude.{ℕ, zero, suc, Bool, true, false, not, ◌&&◌, None, Option, Some, cond}
 use Rattle.players.specs.Gate.{offed_slot}
 use Rattle.players.specs.Seats.{sounding, is_over, reaped}
-use Rattle.session.specs.Lists.{pick, any}
 use Rattle.session.specs.Offs.{took_first}
 use Rattle.session.specs.Rules.{without_slots}
 use Rattle.session.specs.State.{view, relist, slot_list}
 use Rattle.players.specs.declared.Reaped.{Reaped}
-use Rattle.session.specs.declared.FirstOff.{FirstOff}
-use Rattle.session.specs.declared.FirstOff.TheVariants.{Nothing, Taken}
 use Rattle.session.specs.declared.Session.{Session}
 use Rattle.note.specs.declared.NoteState.{NoteState}
-use Rattle.note.specs.declared.MaybeNote.{MaybeNote}
-use Rattle.note.specs.declared.MaybeNote.TheVariants.{Absent, Present}
 use Rattle.events.specs.declared.SampleVoice.{SampleVoice}
 use Rattle.events.specs.declared.Both.{Both}
 use Rattle.gates.specs.declared.off.Turned.{Turned}
@@ -26,21 +23,21 @@ without_players id r s = relist (without_slots id (slot_list r.gone) (view s)) s
 -- players whose envelope is done leave the voice, and their records the list
 unfoldable pub reaped_both : Both → Both
 reaped_both b =
-    pick (any is_over (sounding b.voice.players))
+    cond (list_any is_over (sounding b.voice.players))
     (record { session = without_players b.voice.voice (reaped b.voice.players) b.session; voice = with_players (reaped b.voice.players).players b.voice })
     b
 
 -- the note's release regions have not been fired by a choke
-abbrev pub unfired : MaybeNote → Bool
-unfired Absent = false
-unfired (Present n) = not n.choke_released
+abbrev pub unfired : Option NoteState → Bool
+unfired None = false
+unfired (Some n) = not n.choke_released
 
 abbrev pub with_choke_released : NoteState → NoteState
 with_choke_released n = record { note = n.note; vel = n.vel; note_f = n.note_f; on_time = n.on_time; seed = n.seed; interp = n.interp; choke_released = true }
 
-abbrev pub fired_note : MaybeNote → MaybeNote
-fired_note Absent = Absent
-fired_note (Present n) = Present (with_choke_released n)
+abbrev pub fired_note : Option NoteState → Option NoteState
+fired_note None = None
+fired_note (Some n) = Some (with_choke_released n)
 
 abbrev pub may_fire : Bool → SampleVoice → Bool
 may_fire fires v = fires && (v.gate_held && unfired v.note)
@@ -48,7 +45,7 @@ may_fire fires v = fires && (v.gate_held && unfired v.note)
 -- the choke of a note-on's player under a held gate fires the note's release regions, once for each note
 unfoldable pub choke_fires : Kit → ℕ → ℕ → Bool → Both → Both
 choke_fires k m at fires b =
-    pick (may_fire fires b.voice)
+    cond (may_fire fires b.voice)
     (dispatched_release k m at (record { session = b.session; voice = with_note (fired_note b.voice.note) b.voice }))
     b
 
@@ -56,16 +53,16 @@ choke_fires k m at fires b =
 unfoldable pub applied_off : Kit → ℕ → ℕ → ℕ → Both → Both
 applied_off k m slot at b =
     let o = offed_slot slot b.voice.players in
-    pick o.ignored b (choke_fires k m at o.fires (reaped_both (record { session = b.session; voice = with_players o.players b.voice })))
+    cond o.ignored b (choke_fires k m at o.fires (reaped_both (record { session = b.session; voice = with_players o.players b.voice })))
 
 -- the off time taken first acts
-abbrev pub acts_on : Kit → ℕ → FirstOff → Both → Both
-acts_on k m Nothing b = b
-acts_on k m (Taken o) b = applied_off k m o.slot o.at b
+abbrev pub acts_on : Kit → ℕ → Option Off → Both → Both
+acts_on k m None b = b
+acts_on k m (Some o) b = applied_off k m o.slot o.at b
 
-abbrev pub is_taken : FirstOff → Bool
-is_taken Nothing = false
-is_taken (Taken o) = true
+abbrev pub is_taken : Option Off → Bool
+is_taken None = false
+is_taken (Some o) = true
 
 -- the voice's first waiting off time is taken and acts
 unfoldable pub took_own : Kit → ℕ → Both → Both
@@ -74,10 +71,10 @@ took_own k m b = let t = took_first b.voice.voice b.session in acts_on k m t.fir
 -- whether there was one, and what it did
 unfoldable pub turned_own : Kit → ℕ → Both → Turned
 turned_own k m b =
-    pick (is_taken (took_first b.voice.voice b.session).first) (record { both = took_own k m b; taken = true }) (record { both = b; taken = false })
+    cond (is_taken (took_first b.voice.voice b.session).first) (record { both = took_own k m b; taken = true }) (record { both = b; taken = false })
 
 -- Every off time then on the voice's own records acts, first by first, until none is left. Each takes a mark that can be set twice at
 -- most, so that 128 turns are enough for a voice's 32 records and the 32 that its release may add.
 unfoldable pub own_offs : Kit → ℕ → ℕ → Both → Both
 own_offs k m zero b = b
-own_offs k m (suc turns) b = pick (is_taken (took_first b.voice.voice b.session).first) (own_offs k m turns (took_own k m b)) b
+own_offs k m (suc turns) b = cond (is_taken (took_first b.voice.voice b.session).first) (own_offs k m turns (took_own k m b)) b

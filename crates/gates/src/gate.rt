@@ -11,7 +11,7 @@ use events::start::{dispatch_release, start_all};
 use events::{Both, Cause, SampleVoice};
 use exact::random::rand01;
 use note::choice::{ChosenOn, choose_on};
-use note::{MaybeNote, NoteState, Strike, note_state};
+use note::{NoteState, Strike, note_state};
 use players::gate::release_all;
 use session::{Sequences, Session, lower_held, next_serial, raise_held};
 
@@ -40,7 +40,7 @@ fn strike(v: SampleVoice, ns: NoteState) -> SampleVoice
 {
     let program = v.program;
     let players = v.players;
-    let note = MaybeNote::Present(ns);
+    let note = Some(ns);
     SampleVoice {
         voice: v.voice,
         sample_rate: v.sample_rate,

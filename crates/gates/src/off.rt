@@ -7,10 +7,10 @@ ghost use Rattle.gates.specs.Off.{reaped_both, unfired, fired_note, may_fire, ch
 
 use events::start::dispatch_release;
 use events::{Both, SampleVoice};
-use note::MaybeNote;
+use note::NoteState;
 use players::gate::off_slot;
 use players::{Players, any_over};
-use session::{FirstOff, Session, remove_slots, take_first_off};
+use session::{Session, remove_slots, take_first_off};
 
 // The voice with other players.
 pub fn with_players(v: SampleVoice, ps: Players) -> SampleVoice
@@ -47,30 +47,30 @@ pub fn reap(s: Session, v: SampleVoice) -> Both
 // ---- the choke of a note-on's player under a held gate
 
 // Whether the note's release regions have not been fired by a choke.
-fn is_unfired(m: MaybeNote) -> bool
+fn is_unfired(m: Option<NoteState>) -> bool
     ensures { result ≡ unfired m }
 {
     match m {
-        MaybeNote::Absent => false,
-        MaybeNote::Present(n) => !n.choke_released,
+        None => false,
+        Some(n) => !n.choke_released,
     }
 }
 
-fn fired_note(m: MaybeNote) -> MaybeNote
+fn fired_note(m: Option<NoteState>) -> Option<NoteState>
     ensures { result ≡ fired_note m }
 {
     match m {
-        MaybeNote::Absent => MaybeNote::Absent,
-        MaybeNote::Present(n) => {
+        None => None,
+        Some(n) => {
             let mut k = n;
             k.choke_released = true;
-            MaybeNote::Present(k)
+            Some(k)
         }
     }
 }
 
 // The voice with another note.
-fn with_note(v: SampleVoice, m: MaybeNote) -> SampleVoice
+fn with_note(v: SampleVoice, m: Option<NoteState>) -> SampleVoice
     ensures { result ≡ with_note m v }
 {
     let program = v.program;
@@ -176,11 +176,11 @@ fn took_own(b: Both, words: &[u32], samples: &[u32], n: u32) -> Turned
     let first = t.first;
     let rest = t.session;
     match first {
-        FirstOff::Nothing => Turned {
+        None => Turned {
             both: b,
             taken: false,
         },
-        FirstOff::Taken(o) => {
+        Some(o) => {
             let c = apply_off(rest, v, words, samples, n, o.slot, o.at);
             Turned {
                 both: c,

@@ -1,5 +1,5 @@
 -- The least whole number from a float on, up to 40, by the float's whole part. Assumes nothing.
-use Rattle.std.proofs.Common.{◌≡◌, ℕ, suc, ◌+◌, ◌-◌, ◌*◌, ◌/◌, ◌^◌, ◌<◌, ◌≤◌, min, Bool, true, false, not, T, ltb, ℤ, pos, sym, refl, ap, ◌∙◌, subst, true≢false, div-lt_iff_lt-mul, le_antisymm, lt_of_mul-lt-mul_right, le-div_iff_mul-le, mul-one, mul_right_comm, div-mul-le_self, le_of_mul-le-mul_right, add-one, arith, ltb→lt, nltb→le}
+use Rattle.std.proofs.Common.{◌≡◌, ℕ, suc, ◌+◌, ◌-◌, ◌*◌, ◌/◌, ◌^◌, ◌<◌, ◌≤◌, min, Bool, true, false, not, T, ℤ, pos, sym, refl, ap, ◌∙◌, subst, true≢false, div-lt_iff_lt-mul, le_antisymm, lt_of_mul-lt-mul_right, le-div_iff_mul-le, mul-one, mul_right_comm, div-mul-le_self, le_of_mul-le-mul_right, add-one, arith, ltb→lt, nltb→le}
 use lib.Ieee.Back.{round_whole}
 use lib.Ieee.Exact.{HasValue}
 use lib.Ieee.Fits.{down_pos}

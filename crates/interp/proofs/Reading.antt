@@ -6,7 +6,7 @@ use Rattle.interp.specs.Position.{fraction}
 use Rattle.interp.specs.Read.{kernel_at, read_at, pair_at}
 use Rattle.interp.specs.declared.Interp.{Interp}
 use Rattle.interp.specs.declared.sinc.SincSpan.{SincSpan}
-use Rattle.interp.specs.declared.sinc.Pair.{Pair}
+use Rattle.interp.specs.declared.channels.Pair.{Pair}
 
 module _ (table : List Float) (span : SincSpan) (p : Float) where
   -- t and f are the position's frame and fraction, and k is the kernel's kind

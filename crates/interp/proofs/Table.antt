@@ -9,9 +9,9 @@ use Rattle.exact.specs.Value.{plus}
 use Rattle.exact.specs.Single.{◌⊗◌, ◌⊖◌, single, f16, f512, f8193}
 use Rattle.exact.specs.Order.{magnitude}
 use Rattle.interp.specs.Sinc.{window_at, crossings_of, tapped}
-use Rattle.interp.specs.Places.{place_of, entry_of, part_of, tapped_by, Placed}
+use Rattle.interp.specs.Places.{place_of, entry_of, part_of, weight_at, tapped_by, Placed}
 use Rattle.interp.specs.declared.sinc.SincSpan.{SincSpan}
-use Rattle.interp.specs.declared.sinc.Sums.{Sums}
+use Rattle.interp.specs.Sinc.{Sums}
 use Rattle.interp.proofs.Range.{Within, within}
 
 pub in_table : (u : Float) → T (plus u) → T (lt u f16) → Within 8192 (u ⊗ f512)
@@ -77,7 +77,7 @@ scaled (fin false m e) p t =
     (bounded (round binary32 false (m * up e * (1 * 2 ^ 9)) (down e * 1)) (round-signless binary32 (m * up e * (1 * 2 ^ 9)) (down e * 1)) k, k)
 
 -- ---- the place of a tap
-yes : {b : Bool} → b ≡ true → T b
+pub yes : {b : Bool} → b ≡ true → T b
 yes e = subst T (sym e) tt
 
 pub true_of : (b : Bool) → T b → b ≡ true
@@ -140,7 +140,7 @@ module _ (v y t : Float) (p : y ≡ place_of v) where
 
 -- ---- a tap by its place
 by-at : (b : Bool) (table : List Float) (v x : Float) (s : Sums) → lt (magnitude v) f16 ≡ b → tapped_by table (entry_of v) (part_of v) x s ≡ tapped table v x s
-unfolding tapped_by place_of tapped window_at
+unfolding tapped_by weight_at place_of tapped window_at
 by-at true table v x s e =
     let t = yes e in
     rw (e, le-leb (to_unsigned 64 (magnitude v ⊗ f512)) 8192 (in_table (magnitude v) (magnitude-plus v t) t).small)

@@ -4,9 +4,8 @@ use Rattle.std.specs.Float.{nan}
 use Rattle.std.specs.Float.Ieee.{lt, to_unsigned}
 use Rattle.exact.specs.Single.{◌⊕◌, ◌⊖◌, ◌⊗◌, single, f16, f512, f8193}
 use Rattle.exact.specs.Order.{magnitude}
-use Rattle.interp.specs.Sinc.{crossings_of}
+use Rattle.interp.specs.Sinc.{Sums, crossings_of}
 use Rattle.interp.specs.declared.sinc.SincSpan.{SincSpan}
-use Rattle.interp.specs.declared.sinc.Sums.{Sums}
 
 -- the place of what is v zero crossings away, in entries of the table; behind the last one where the window does not reach that far
 unfoldable pub place_of : Float → Float
@@ -19,12 +18,17 @@ entry_of v = to_unsigned 64 (place_of v)
 abbrev pub part_of : Float → Float
 part_of v = place_of v ⊖ single (entry_of v)
 
--- one tap more: the frame x, by the table between the entries i and i + 1
-unfoldable pub tapped_by : List Float → ℕ → Float → Float → Sums → Sums
-tapped_by table i g x s =
+-- the weight by the table between the entries i and i + 1
+unfoldable pub weight_at : List Float → ℕ → Float → Float
+weight_at table i g =
     let a = get_or table i nan in
     let b = get_or table (i + 1) nan in
-    let w = a ⊕ g ⊗ (b ⊖ a) in
+    a ⊕ g ⊗ (b ⊖ a)
+
+-- one tap more: the frame x, by that weight
+unfoldable pub tapped_by : List Float → ℕ → Float → Float → Sums → Sums
+tapped_by table i g x s =
+    let w = weight_at table i g in
     cond (nat_le i 8192) (record { acc = s.acc ⊕ w ⊗ x; wsum = s.wsum ⊕ w }) s
 
 -- the places of the first k taps

@@ -8,7 +8,7 @@ use Rattle.interp.specs.Sinc.{sinc_at}
 use Rattle.interp.specs.declared.Interp.{Interp}
 use Rattle.interp.specs.declared.Interp.TheVariants.{Linear, Hermite, Sinc}
 use Rattle.interp.specs.declared.sinc.SincSpan.{SincSpan}
-use Rattle.interp.specs.declared.sinc.Pair.{Pair}
+use Rattle.interp.specs.declared.channels.Pair.{Pair}
 
 -- 0 is linear, 1 Hermite, 2 sinc
 unfoldable pub by_quality : Float → Interp → Interp

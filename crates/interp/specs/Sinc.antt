@@ -6,8 +6,6 @@ use Rattle.exact.specs.Single.{◌⊕◌, ◌⊖◌, ◌⊗◌, ◌⊘◌, singl
 use Rattle.exact.specs.Order.{magnitude}
 use Rattle.interp.specs.Points.{frame_at}
 use Rattle.interp.specs.declared.sinc.SincSpan.{SincSpan}
-use Rattle.interp.specs.declared.sinc.Sums.{Sums}
-use Rattle.interp.specs.declared.sinc.PairSums.{PairSums}
 
 -- The window at u zero crossings from its middle. The table has 512 points to a crossing; between two of them it is read on a line.
 unfoldable pub window_at : List Float → Float → Float
@@ -22,6 +20,11 @@ window_at table u =
 -- How far tap k lies from the position, in zero crossings: f + (half - 1 - k) frames, times the cutoff
 unfoldable pub crossings_of : SincSpan → Float → ℕ → Float
 crossings_of span f k = (f ⊕ (single span.half ⊖ f1 ⊖ single k)) ⊗ span.fc
+
+-- the sum of the weighted frames, and of the weights
+pub record Sums : Type 0 where
+  pub acc : Float
+  pub wsum : Float
 
 -- one tap more: the frame x, v zero crossings away, where the window, which has 16 on each side, reaches that far
 unfoldable pub tapped : List Float → Float → Float → Sums → Sums
@@ -43,10 +46,3 @@ mean_of s = cond (ne s.wsum f0) (s.acc ⊘ s.wsum) f0
 -- the frames around place n + f
 unfoldable pub sinc_at : List Float → List Float → SincSpan → ℕ → Float → Float
 sinc_at table frames span n f = mean_of (taps table frames span n f (2 * span.half))
-
--- each channel's part of two channels' sums
-abbrev pub left_of : PairSums → Sums
-left_of s = record { acc = s.a; wsum = s.wsum }
-
-abbrev pub right_of : PairSums → Sums
-right_of s = record { acc = s.b; wsum = s.wsum }

@@ -9,33 +9,17 @@ use exact::order::abs_f32;
 // How many frames of silence a channel has in front: places count from there, so that none that a kernel draws on is below 0.
 pub const PCM_PAD: usize = 42;
 
-// The Catmull-Rom weight at the distance x.
-pub fn hermite3(x: f32) -> f32
-    ensures { result ≡ weight3 x }
-{
-    let d = abs_f32(x);
-    let d2 = d * d;
-    let d3 = d2 * d;
-    let q = 2.5 * d2;
-    if d < 1.0 {
-        1.0 - q + 1.5 * d3
-    } else if d < 2.0 {
-        2.0 - 4.0 * d + q - 0.5 * d3
-    } else {
-        0.0
-    }
-}
-
 // The frame in place n, which is frame n - PCM_PAD of the sample; 0.0 outside it. A place in the silence wraps round to a
 // number that no sample reaches, so that one test serves both ends.
 pub fn frame_at(frames: &[f32], n: usize) -> f32
     ensures { result ≡ frame_at frames.now n }
 {
-    let i = std::num::wrapping_sub_usize(n, PCM_PAD);
+    let i = n.wrapping_sub(PCM_PAD);
     if i < frames.len() { frames[i] } else { 0.0 }
 }
 
 // Between the frames in the places n and n + 1, by f.
+#[tactic(auto, unfolding(crate::specs::Points::linear_at))]
 pub fn linear(frames: &[f32], n: usize, f: f32) -> f32
     requires { n ≤ 8589934634 }
     ensures { result ≡ linear_at frames.now n f }
@@ -72,6 +56,21 @@ fn far_weight(d: f32) -> f32
     2.0 - 4.0 * d + 2.5 * d2 - 0.5 * d3
 }
 
+// The Catmull-Rom weight at the distance x.
+#[tactic(auto, unfolding(crate::specs::Points::weight3))]
+pub fn hermite3(x: f32) -> f32
+    ensures { result ≡ weight3 x }
+{
+    let d = abs_f32(x);
+    if d < 1.0 {
+        near_weight(d)
+    } else if d < 2.0 {
+        far_weight(d)
+    } else {
+        0.0
+    }
+}
+
 // The weights of any f, one by one.
 fn each_weight(f: f32) -> Weights
     ensures { result ≡ weights_at f }
@@ -88,20 +87,14 @@ fn each_weight(f: f32) -> Weights
 fn in_first(v: f32) -> bool
     ensures { result ≡ (lt f0 v && lt v f1) }
 {
-    if 0.0 < v {
-        return v < 1.0;
-    }
-    false
+    0.0 < v && v < 1.0
 }
 
 // Whether v lies from 1 to 2.
 fn in_second(v: f32) -> bool
     ensures { result ≡ (not (lt v f1) && lt v f2) }
 {
-    if v < 1.0 {
-        return false;
-    }
-    v < 2.0
+    !(v < 1.0) && v < 2.0
 }
 
 // The weights around a position that lies f behind the second frame. Where f is a part of 1 it is known which side of 1 each
@@ -112,24 +105,19 @@ fn weigh(f: f32) -> Weights
     let x = -(-1.0 - f);
     let z = 1.0 - f;
     let w = 2.0 - f;
-    if in_first(f) {
-        if in_first(z) {
-            if in_second(x) {
-                if in_second(w) {
-                    return Weights {
-                        a: far_weight(x),
-                        b: near_weight(f),
-                        c: near_weight(z),
-                        d: far_weight(w),
-                    };
-                }
-            }
-        }
+    if in_first(f) && in_first(z) && in_second(x) && in_second(w) {
+        return Weights {
+            a: far_weight(x),
+            b: near_weight(f),
+            c: near_weight(z),
+            d: far_weight(w),
+        };
     }
     each_weight(f)
 }
 
 // The frames in the places n - 1 to n + 2, each by its weight.
+#[tactic(auto, unfolding(crate::specs::Points::hermite_at))]
 pub fn hermite(frames: &[f32], n: usize, f: f32) -> f32
     requires { (42 ≤ n) × (n ≤ 8589934634) }
     ensures { result ≡ hermite_at frames.now n f }

@@ -1,13 +1,13 @@
 // The windowed sinc, whose cutoff follows the playback step.
-ghost use Rattle.std.specs.Prelude.{◌≡◌, ◌+◌, ◌*◌, ◌≤◌, min, T, length, if◌then◌else◌};
+ghost use Rattle.std.specs.Prelude.{◌≡◌, ◌+◌, ◌*◌, ◌≤◌, Bool, min, T, length, if◌then◌else◌};
 ghost use Rattle.std.specs.Float.Ieee.{le, lt, to_unsigned};
 ghost use Rattle.exact.specs.Value.{plus};
 ghost use Rattle.exact.specs.Single.{single, f0, f1, f8193};
 ghost use Rattle.interp.specs.Span.{ceiling, stretch_of, span_for};
-ghost use Rattle.interp.specs.Sinc.{crossings_of, mean_of, sinc_at, left_of, right_of};
-ghost use Rattle.interp.specs.Places.{place_of, tapped_by, Placed};
+ghost use Rattle.interp.specs.Sinc.{crossings_of, sinc_at};
+ghost use Rattle.interp.specs.Places.{place_of, weight_at, Placed};
 
-use crate::points::frame_at;
+use crate::channels::Channels;
 use exact::format::narrow;
 use exact::order::abs_f32;
 
@@ -20,6 +20,7 @@ pub struct SincSpan {
 
 impl SincSpan {
     // The span for a playback step, in frames of the sample per output frame.
+    #[tactic(auto, unfolding(crate::specs::Span::span_for))]
     pub fn for_step(step: f64) -> SincSpan
         ensures { result ≡ span_for step }
     {
@@ -32,6 +33,7 @@ impl SincSpan {
 }
 
 // How much wider the kernel is than at its full cutoff.
+#[tactic(auto, unfolding(crate::specs::Span::stretch_of))]
 fn stretch(step: f64) -> f32
     ensures { result ≡ stretch_of step }
 {
@@ -55,27 +57,8 @@ fn half_taps(x: f32) -> u16
     0
 }
 
-// The sum of the weighted frames, and of the weights.
-#[derive(Clone, Copy)]
-pub struct Sums {
-    pub acc: f32,
-    pub wsum: f32,
-}
-
-// The same for two channels, whose weights are one.
-#[derive(Clone, Copy)]
-pub struct PairSums {
-    pub a: f32,
-    pub b: f32,
-    pub wsum: f32,
-}
-
-#[derive(Drop)]
-pub struct Pair {
-    pub l: f32,
-    pub r: f32,
-}
-
+// This and `whole` are those of `position` in single precision. One form of both would need a trait with each format's 2^52 or 2^23,
+// 0.0 and 1.0, longer than the two lines that it saves.
 // What the whole number r next to x is too many.
 fn excess(r: f32, x: f32) -> f32
     ensures { result ≡ (if lt x r then f1 else f0) }
@@ -93,6 +76,7 @@ pub fn whole(x: f32) -> f32
 }
 
 // How far tap k lies from the position, in zero crossings.
+#[tactic(auto, unfolding(crate::specs::Sinc::crossings_of))]
 fn crossings(span: SincSpan, f: f32, k: u16) -> f32
     ensures { result ≡ crossings_of span f k }
 {
@@ -101,6 +85,7 @@ fn crossings(span: SincSpan, f: f32, k: u16) -> f32
 }
 
 // The place in the table of what is v zero crossings away; behind the table where the window does not reach that far.
+#[tactic(auto, unfolding(crate::specs::Places::place_of))]
 fn place(v: f32) -> f32
     ensures { result ≡ place_of v }
 {
@@ -124,92 +109,34 @@ fn places(span: SincSpan, f: f32, entries: &mut [u16], parts: &mut [f32])
     }
 }
 
-// One tap more: the frame x, by the table between the entries i and i + 1.
-fn tap(s: Sums, table: &[f32], i: u16, g: f32, x: f32) -> Sums
-    requires { length table.now ≡ 8194 }
-    ensures { result ≡ tapped_by table.now i g x s }
+// The weight by the table between the entries i and i + 1.
+#[tactic(auto, unfolding(crate::specs::Places::weight_at))]
+pub fn weight(table: &[f32], i: usize, g: f32) -> f32
+    requires { (i ≤ 8192) × (length table.now ≡ 8194) }
+    ensures { result ≡ weight_at table.now i g }
 {
-    if i <= 8192 {
-        let at = i as usize;
-        let a = table[at];
-        let b = table[at + 1];
-        let w = a + g * (b - a);
-        return Sums {
-            acc: s.acc + w * x,
-            wsum: s.wsum + w,
-        };
-    }
-    s
+    let a = table[i];
+    let b = table[i + 1];
+    a + g * (b - a)
 }
 
-// One tap more of two channels.
-fn tap_pair(s: PairSums, table: &[f32], i: u16, g: f32, x: f32, y: f32) -> PairSums
-    requires { length table.now ≡ 8194 }
-    ensures { (left_of result ≡ tapped_by table.now i g x (left_of s)) × (right_of result ≡ tapped_by table.now i g y (right_of s)) }
-{
-    if i <= 8192 {
-        let at = i as usize;
-        let a = table[at];
-        let b = table[at + 1];
-        let w = a + g * (b - a);
-        return PairSums {
-            a: s.a + w * x,
-            b: s.b + w * y,
-            wsum: s.wsum + w,
-        };
-    }
-    s
-}
-
-// The sum over the sum of the weights.
-pub fn mean(acc: f32, wsum: f32) -> f32
-    ensures { result ≡ mean_of (record { acc = acc; wsum = wsum }) }
-{
-    if wsum != 0.0 { acc / wsum } else { 0.0 }
-}
-
-// The frames around place n + f.
-pub fn sinc(table: &[f32], frames: &[f32], span: SincSpan, n: usize, f: f32) -> f32
+// The frames around place n + f, the weights once for all channels.
+pub fn sinc<C: Channels>(table: &[f32], channels: C, span: SincSpan, n: usize, f: f32) -> C::Frame
     requires { (length table.now ≡ 8194) × (span.half ≤ 40) × (42 ≤ n) × (n ≤ 8589934634) }
-    ensures { result ≡ sinc_at table.now frames.now span n f }
+    ensures { (right : Bool) → C.part result right ≡ sinc_at table.now (C.frames channels right) span n f }
 {
     let mut entries = [0u16; 80];
     let mut parts = [0.0f32; 80];
     places(span, f, &mut entries, &mut parts);
-    let mut s = Sums {
-        acc: 0.0,
-        wsum: 0.0,
-    };
+    let mut sum = channels.none();
+    let mut wsum = 0.0f32;
     let count = 2 * (span.half as usize);
     for k in 0..count {
-        let x = frame_at(frames, n + 1 + k - (span.half as usize));
-        s = tap(s, table, entries[k], parts[k], x);
+        if entries[k] <= 8192 {
+            let w = weight(table, entries[k] as usize, parts[k]);
+            sum = channels.more(sum, w, n + 1 + k - (span.half as usize));
+            wsum = wsum + w;
+        }
     }
-    mean(s.acc, s.wsum)
-}
-
-// The same of two channels, the weights once for both.
-pub fn sinc_pair(table: &[f32], a: &[f32], b: &[f32], span: SincSpan, n: usize, f: f32) -> Pair
-    requires { (length table.now ≡ 8194) × (span.half ≤ 40) × (42 ≤ n) × (n ≤ 8589934634) }
-    ensures { (result.l ≡ sinc_at table.now a.now span n f) × (result.r ≡ sinc_at table.now b.now span n f) }
-{
-    let mut entries = [0u16; 80];
-    let mut parts = [0.0f32; 80];
-    places(span, f, &mut entries, &mut parts);
-    let mut s = PairSums {
-        a: 0.0,
-        b: 0.0,
-        wsum: 0.0,
-    };
-    let count = 2 * (span.half as usize);
-    for k in 0..count {
-        let i = n + 1 + k - (span.half as usize);
-        let x = frame_at(a, i);
-        let y = frame_at(b, i);
-        s = tap_pair(s, table, entries[k], parts[k], x, y);
-    }
-    Pair {
-        l: mean(s.a, s.wsum),
-        r: mean(s.b, s.wsum),
-    }
+    channels.mean(sum, wsum)
 }

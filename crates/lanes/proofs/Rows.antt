@@ -10,20 +10,20 @@ use lib.Dec.{T, leb, leb→le}
 use lib.ListN.{get_or, set, length, length-set}
 use lib.Seq.{get_or-set_same, get_or-set_other}
 use lib.Ieee.{Float, nan, lt, is_nan, to_unsigned}
-use Rattle.exact.specs.Single.{◌⊕◌, ◌⊖◌, ◌⊗◌, single, f0, f1, f16}
+use Rattle.exact.specs.Single.{◌⊕◌, ◌⊖◌, ◌⊗◌, single, f1, f16}
 use Rattle.exact.specs.Order.{magnitude}
 use Rattle.interp.specs.Points.{frame_at}
 use Rattle.interp.specs.Sinc.{crossings_of, taps, sinc_at}
-use Rattle.interp.specs.Places.{place_of, entry_of, part_of, tapped_by}
-use Rattle.lanes.specs.Four.{Part, Inside, Parts, InFrames, Spot, AtRow, Rows, Low, lane0, lane1, lane2, lane3, RowOf, place_from, means_of, sinc_four}
+use Rattle.interp.specs.Places.{place_of, entry_of, part_of, weight_at, tapped_by}
+use Rattle.lanes.specs.Four.{Part, Inside, Parts, InFrames, Spot, AtRow, Rows, Low, lane0, lane1, lane2, lane3, Lanes, TapOf, summed, weighted, read_at, no_lanes, place_from, means_of, sinc_four}
 use Rattle.interp.specs.declared.sinc.SincSpan.{SincSpan}
-use Rattle.interp.specs.declared.sinc.Sums.{Sums}
+use Rattle.interp.specs.Sinc.{Sums}
 use Rattle.lanes.specs.declared.four.Four.{Four}
 use Rattle.lanes.specs.declared.four.Starts.{Starts}
-use Rattle.lanes.specs.declared.four.Lanes.{Lanes}
+use Rattle.lanes.specs.declared.four.Tap.{Tap}
 use Rattle.interp.proofs.Frames as frames
 use Rattle.lanes.proofs.Inner.{inside, no_nan, entry-low}
-use Rattle.interp.proofs.Taps.{more_by}
+use Rattle.interp.proofs.Taps.{more_by, in_window, outside}
 
 -- ---- four places stored
 abbrev pub put4 : {A : Type 0} → List A → ℕ → A → A → A → A → List A
@@ -148,20 +148,17 @@ rows_none span f es ps t h = absurd (none t h)
     none j h = omega arith
 
 -- ---- a tap that is picked or not
-outside : (table : List Float) (i : ℕ) (g x : Float) (s : Sums) → leb i 8192 ≡ false → s ≡ tapped_by table i g x s
-unfolding tapped_by
-outside table i g x s e = rw e
-
-module _ (table : List Float) (i j : ℕ) (g x : Float) (s t : Sums) (held : j ≡ min i 8192) (made : t ≡ tapped_by table j g x s) where
-  pub picked : (a w : Float) → a ≡ cond (leb i 8192) t.acc s.acc → w ≡ cond (leb i 8192) t.wsum s.wsum → ◌≡◌ {A = Sums} (record { acc = a; wsum = w }) (tapped_by table i g x s)
-  picked a w p q = go (leb i 8192) refl
+module _ (table : List Float) (i : ℕ) (g x : Float) (s : Sums) where
+  picked : (w : Float) (b : Bool) → w ≡ weight_at table (min i 8192) g → b ≡ leb i 8192
+      → ◌≡◌ {A = Sums} (record { acc = cond b (s.acc ⊕ w ⊗ x) s.acc; wsum = cond b (s.wsum ⊕ w) s.wsum }) (tapped_by table i g x s)
+  picked w b p q = go (leb i 8192) refl
     where
-      go : (b : Bool) → leb i 8192 ≡ b → ◌≡◌ {A = Sums} (record { acc = a; wsum = w }) (tapped_by table i g x s)
+      go : (t : Bool) → leb i 8192 ≡ t → ◌≡◌ {A = Sums} (record { acc = cond b (s.acc ⊕ w ⊗ x) s.acc; wsum = cond b (s.wsum ⊕ w) s.wsum }) (tapped_by table i g x s)
       go true e =
           let l : i ≤ 8192 = leb→le i 8192 (subst T (sym e) tt) in
-          let m : j ≡ i = held ∙ omega arith in
-          rw (p, q, e) (made ∙ ap (λ (k : ℕ). tapped_by table k g x s) m)
-      go false e = rw (p, q, e) (outside table i g x s e)
+          let m : min i 8192 ≡ i = omega arith in
+          rw (q, e) (in_window table i g x s l _ _ (rw (p, m)) (rw (p, m)))
+      go false e = rw (q, e) (outside table i g x s e)
 
 -- ---- the sums
 -- the first k taps of each frame
@@ -178,14 +175,14 @@ here l i half k h =
     rw e (subst (λ (j : ℕ). get_or l j nan ≡ frame_at l (i + k + 42)) b (frames.inside l (i + k + 42) nan (omega arith) (omega arith)))
 
 module _ (table l : List Float) (span : SincSpan) (n : Starts) (f : Four) (es : List ℕ) (ps : List Float) where
-  pub tapped-row : (k : ℕ) (s r : Lanes) → AtRow span f es ps k → InFrames n (2 * span.half) l → k < 2 * span.half → RowOf table l es ps n k s r → Tapped table l span n f k s
-      → Tapped table l span n f (k + 1) r
-  tapped-row k s r p b h w t =
+  pub tapped-row : (k : ℕ) (s r : Lanes) (t : Tap) → AtRow span f es ps k → InFrames n (2 * span.half) l → k < 2 * span.half → TapOf table es ps k t
+      → r ≡ record { acc = summed t (read_at l n k) s.acc; wsum = weighted t s.wsum } → Tapped table l span n f k s → Tapped table l span n f (k + 1) r
+  tapped-row k s r t p b h w e u =
       record {
-        l0 = more_by table l span (place_from span n.n0) f.x0 k (lane0 s) t.l0 (lane0 r) _ _ _ w.l0 p.s0.entry p.s0.part (here l n.n0 span.half k (omega (arith, b.n0)));
-        l1 = more_by table l span (place_from span n.n1) f.x1 k (lane1 s) t.l1 (lane1 r) _ _ _ w.l1 p.s1.entry p.s1.part (here l n.n1 span.half k (omega (arith, b.n1)));
-        l2 = more_by table l span (place_from span n.n2) f.x2 k (lane2 s) t.l2 (lane2 r) _ _ _ w.l2 p.s2.entry p.s2.part (here l n.n2 span.half k (omega (arith, b.n2)));
-        l3 = more_by table l span (place_from span n.n3) f.x3 k (lane3 s) t.l3 (lane3 r) _ _ _ w.l3 p.s3.entry p.s3.part (here l n.n3 span.half k (omega (arith, b.n3)));
+        l0 = more_by table l span (place_from span n.n0) f.x0 k (lane0 s) u.l0 (lane0 r) _ _ _ (ap lane0 e ∙ picked table _ _ _ (lane0 s) _ _ w.w0 w.in0) p.s0.entry p.s0.part (here l n.n0 span.half k (omega (arith, b.n0)));
+        l1 = more_by table l span (place_from span n.n1) f.x1 k (lane1 s) u.l1 (lane1 r) _ _ _ (ap lane1 e ∙ picked table _ _ _ (lane1 s) _ _ w.w1 w.in1) p.s1.entry p.s1.part (here l n.n1 span.half k (omega (arith, b.n1)));
+        l2 = more_by table l span (place_from span n.n2) f.x2 k (lane2 s) u.l2 (lane2 r) _ _ _ (ap lane2 e ∙ picked table _ _ _ (lane2 s) _ _ w.w2 w.in2) p.s2.entry p.s2.part (here l n.n2 span.half k (omega (arith, b.n2)));
+        l3 = more_by table l span (place_from span n.n3) f.x3 k (lane3 s) u.l3 (lane3 r) _ _ _ (ap lane3 e ∙ picked table _ _ _ (lane3 s) _ _ w.w3 w.in3) p.s3.entry p.s3.part (here l n.n3 span.half k (omega (arith, b.n3)));
       }
 
 pub low-row : (span : SincSpan) (f : Four) (es : List ℕ) (ps : List Float) (k : ℕ) → Inside span → Parts f → 0 < k → k + 1 < 2 * span.half → AtRow span f es ps k → Low es k
@@ -202,9 +199,9 @@ pub in-frames : (n : Starts) (l : List Float) (j m : ℕ) → j ≤ m → InFram
 in-frames n l j m h b = record { n0 = omega (arith, b.n0); n1 = omega (arith, b.n1); n2 = omega (arith, b.n2); n3 = omega (arith, b.n3) }
 
 module _ (table l : List Float) (span : SincSpan) (n : Starts) (f : Four) where
-  pub tapped-none : Tapped table l span n f 0 (record { acc = record { x0 = f0; x1 = f0; x2 = f0; x3 = f0 }; wsum = record { x0 = f0; x1 = f0; x2 = f0; x3 = f0 } })
+  pub tapped-none : (s : Lanes) → s ≡ no_lanes → Tapped table l span n f 0 s
   unfolding taps
-  tapped-none = record { l0 = refl; l1 = refl; l2 = refl; l3 = refl }
+  tapped-none s e = rw e record { l0 = refl; l1 = refl; l2 = refl; l3 = refl }
 
   pub tapped-at : (j k : ℕ) (s : Lanes) → j ≡ k → Tapped table l span n f j s → Tapped table l span n f k s
   tapped-at j k s e t = subst (λ (i : ℕ). Tapped table l span n f i s) e t

@@ -1,18 +1,16 @@
 -- Four frames by the windowed sinc, the same tap of all four side by side. Definitions only.
-use Rattle.std.specs.Prelude.{◌≡◌, List, ℕ, ◌+◌, ◌*◌, ◌≤◌, ◌<◌, T, get_or, length, Float}
+use Rattle.std.specs.Prelude.{◌≡◌, cond, List, ℕ, ◌+◌, ◌*◌, ◌≤◌, ◌<◌, min, nat_le, T, get_or, length, Float}
 use Rattle.std.specs.Float.{nan}
 use Rattle.std.specs.Float.Ieee.{lt, le}
 use Rattle.exact.specs.Value.{plus}
-use Rattle.exact.specs.Single.{◌⊖◌, ◌⊗◌, single, f1, f16}
+use Rattle.exact.specs.Single.{◌⊕◌, ◌⊖◌, ◌⊗◌, single, f0, f1, f16, f8193}
 use Rattle.exact.specs.Order.{magnitude}
-use Rattle.interp.specs.Sinc.{crossings_of, mean_of, sinc_at}
-use Rattle.interp.specs.Places.{entry_of, part_of, tapped_by}
+use Rattle.interp.specs.Sinc.{Sums, crossings_of, mean_of, sinc_at}
+use Rattle.interp.specs.Places.{entry_of, part_of, weight_at}
 use Rattle.interp.specs.declared.sinc.SincSpan.{SincSpan}
-use Rattle.interp.specs.declared.sinc.Sums.{Sums}
 use Rattle.lanes.specs.declared.four.Four.{Four}
 use Rattle.lanes.specs.declared.four.Starts.{Starts}
-use Rattle.lanes.specs.declared.four.Lanes.{Lanes}
-use Rattle.lanes.specs.declared.four.PairLanes.{PairLanes}
+use Rattle.lanes.specs.declared.four.Tap.{Tap}
 
 -- how far a position lies behind its frame: from 0 to 1
 abbrev pub Part : Float → Type 0
@@ -59,6 +57,59 @@ pub record Low (es : List ℕ) (k : ℕ) : Type 0 where
   pub e2 : get_or es (4 * k + 2) 0 ≤ 8192
   pub e3 : get_or es (4 * k + 3) 0 ≤ 8192
 
+-- four places, each in the table or just behind it
+pub record Few (y : Four) : Type 0 where
+  pub x0 : T (plus y.x0) × T (le y.x0 f8193)
+  pub x1 : T (plus y.x1) × T (le y.x1 f8193)
+  pub x2 : T (plus y.x2) × T (le y.x2 f8193)
+  pub x3 : T (plus y.x3) × T (le y.x3 f8193)
+
+-- t is tap k: by the table the weights, and whether each lies in the window
+pub record TapOf (table : List Float) (es : List ℕ) (ps : List Float) (k : ℕ) (t : Tap) : Type 0 where
+  pub w0 : t.w.x0 ≡ weight_at table (min (get_or es (4 * k) 0) 8192) (get_or ps (4 * k) nan)
+  pub w1 : t.w.x1 ≡ weight_at table (min (get_or es (4 * k + 1) 0) 8192) (get_or ps (4 * k + 1) nan)
+  pub w2 : t.w.x2 ≡ weight_at table (min (get_or es (4 * k + 2) 0) 8192) (get_or ps (4 * k + 2) nan)
+  pub w3 : t.w.x3 ≡ weight_at table (min (get_or es (4 * k + 3) 0) 8192) (get_or ps (4 * k + 3) nan)
+  pub in0 : t.in0 ≡ nat_le (get_or es (4 * k) 0) 8192
+  pub in1 : t.in1 ≡ nat_le (get_or es (4 * k + 1) 0) 8192
+  pub in2 : t.in2 ≡ nat_le (get_or es (4 * k + 2) 0) 8192
+  pub in3 : t.in3 ≡ nat_le (get_or es (4 * k + 3) 0) 8192
+
+-- x by the weights, on top of s
+abbrev pub summed : Tap → Four → Four → Four
+summed t x s = record {
+  x0 = cond t.in0 (s.x0 ⊕ t.w.x0 ⊗ x.x0) s.x0;
+  x1 = cond t.in1 (s.x1 ⊕ t.w.x1 ⊗ x.x1) s.x1;
+  x2 = cond t.in2 (s.x2 ⊕ t.w.x2 ⊗ x.x2) s.x2;
+  x3 = cond t.in3 (s.x3 ⊕ t.w.x3 ⊗ x.x3) s.x3;
+}
+
+-- the weights, on top of s
+abbrev pub weighted : Tap → Four → Four
+weighted t s = record {
+  x0 = cond t.in0 (s.x0 ⊕ t.w.x0) s.x0;
+  x1 = cond t.in1 (s.x1 ⊕ t.w.x1) s.x1;
+  x2 = cond t.in2 (s.x2 ⊕ t.w.x2) s.x2;
+  x3 = cond t.in3 (s.x3 ⊕ t.w.x3) s.x3;
+}
+
+-- the frames of tap k
+abbrev pub read_at : List Float → Starts → ℕ → Four
+read_at frames n k = record {
+  x0 = get_or frames (n.n0 + k) nan;
+  x1 = get_or frames (n.n1 + k) nan;
+  x2 = get_or frames (n.n2 + k) nan;
+  x3 = get_or frames (n.n3 + k) nan;
+}
+
+-- one channel's sums of four frames
+pub record Lanes : Type 0 where
+  pub acc : Four
+  pub wsum : Four
+
+abbrev pub no_lanes : Lanes
+no_lanes = record { acc = record { x0 = f0; x1 = f0; x2 = f0; x3 = f0 }; wsum = record { x0 = f0; x1 = f0; x2 = f0; x3 = f0 } }
+
 -- each frame's part of the four frames' sums
 abbrev pub lane0 : Lanes → Sums
 lane0 s = record { acc = s.acc.x0; wsum = s.wsum.x0 }
@@ -71,20 +122,6 @@ lane2 s = record { acc = s.acc.x2; wsum = s.wsum.x2 }
 
 abbrev pub lane3 : Lanes → Sums
 lane3 s = record { acc = s.acc.x3; wsum = s.wsum.x3 }
-
--- each channel's part of two channels' sums
-abbrev pub left_lanes : PairLanes → Lanes
-left_lanes s = record { acc = s.a; wsum = s.wsum }
-
-abbrev pub right_lanes : PairLanes → Lanes
-right_lanes s = record { acc = s.b; wsum = s.wsum }
-
--- r is s with tap k of each frame
-pub record RowOf (table frames : List Float) (es : List ℕ) (ps : List Float) (n : Starts) (k : ℕ) (s r : Lanes) : Type 0 where
-  pub l0 : lane0 r ≡ tapped_by table (get_or es (4 * k) 0) (get_or ps (4 * k) nan) (get_or frames (n.n0 + k) nan) (lane0 s)
-  pub l1 : lane1 r ≡ tapped_by table (get_or es (4 * k + 1) 0) (get_or ps (4 * k + 1) nan) (get_or frames (n.n1 + k) nan) (lane1 s)
-  pub l2 : lane2 r ≡ tapped_by table (get_or es (4 * k + 2) 0) (get_or ps (4 * k + 2) nan) (get_or frames (n.n2 + k) nan) (lane2 s)
-  pub l3 : lane3 r ≡ tapped_by table (get_or es (4 * k + 3) 0) (get_or ps (4 * k + 3) nan) (get_or frames (n.n3 + k) nan) (lane3 s)
 
 -- The place whose first tap is frame i. Places begin 42 before the first frame.
 abbrev pub place_from : SincSpan → ℕ → ℕ

@@ -1,5 +1,5 @@
 // The two places that also take their state lent: the choke walk over a lent slice of records, and the step of a lent
-// envelope. Both are thin: what is done to one record, and to an envelope, is the by-value call.
+// envelope. Both are thin: the walk is session's own, and what is done to an envelope is the by-value call.
 #![tactic(auto)]
 
 ghost use Rattle.std.specs.Prelude.{◌≡◌};
@@ -13,20 +13,14 @@ use session::{PlayerRecord, Start};
 pub fn choke_walk(records: &mut [PlayerRecord], st: Start)
     ensures { records.new ≡ choke st records.old }
 {
-    let mut i: usize = 0;
-    while i < records.len() {
-        let r = records[i];
-        records[i] = session::choke_one(r, st);
-        i += 1;
-    }
+    session::choke(records, st);
 }
 
 // Steps the envelope by a frame: the frame's value.
 pub fn step(env: &mut Env) -> f32
     ensures { record { value = result; env = env.new } ≡ env_next env.old }
 {
-    let e = *env;
-    let s = e.next();
+    let s = env.next();
     *env = s.env;
     s.value
 }

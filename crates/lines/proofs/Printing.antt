@@ -1,16 +1,13 @@
 -- Laws of writing a number's digits. Assumes nothing.
 use Prim.Native.Nat.{ℕ, zero, suc, ◌+◌, ◌-◌, ◌/◌, ◌%◌, ◌<◌, ◌≤◌}
 use mathlib.Core.Path.{◌≡◌, refl, sym, ap, ◌∙◌}
-use mathlib.Core.Bool.{Bool, true, false, cond, true≢false}
+use mathlib.Core.Bool.{true, false, true≢false}
 use mathlib.Core.List.{List, [], ◌∷◌, ◌++◌}
 use native.Mathlib.Nat.{add-zero}
 use native.Mathlib.Numerals.{add-one}
 use native.Mathlib.Omega.{arith}
-use lib.Dec.{T}
-use lib.IntN.{ℤ, pos, negsuc, ◌-ℤ◌, nat_abs}
-use lib.Signed.{non_neg, lt_z}
-use mir.Syntax.{w32, w64}
-use mir.Val.{Fits, SFits}
+use lib.IntN.{ℤ, pos, negsuc, nat_abs}
+use lib.Signed.{lt_z}
 use lib.ListN.{length, set, length-append}
 use lib.Seq.{sets, set_comm}
 use borrow.Author.Tests.{ltb-true, lt-ltb, le-ltb, lt-leb, le-leb}
@@ -29,13 +26,14 @@ unfolding last_digits
 length_digits base zero n = refl
 length_digits base (suc k) n = length-append (last_digits base k (n / base)) (glyph_of (n % base) ∷ []) ∙ (let e = length_digits base k (n / base) in let q : length (last_digits base k (n / base)) + 1 ≡ suc k = omega arith in q)
 
--- one digit more, where i are left
-pub digit-stored : (l : List ℕ) (at base i n g : ℕ) → 0 < i → g ≡ glyph_of (n % base) → sets l at (last_digits base i n) ≡ sets (set l (at + (i - 1)) g) at (last_digits base (i - 1) (n / base))
+-- one digit more, where i are left, and j after it
+pub digit-stored : (l : List ℕ) (at base i j n g : ℕ) → i ≡ j + 1 → g ≡ glyph_of (n % base) → sets l at (last_digits base i n) ≡ sets (set l (at + (i - 1)) g) at (last_digits base j (n / base))
 unfolding last_digits
-digit-stored l at base zero n g h e = absurd (omega arith)
-digit-stored l at base (suc i) n g h e =
+digit-stored l at base zero j n g h e = absurd (omega arith)
+digit-stored l at base (suc i) j n g h e =
     let q : suc i - 1 ≡ i = omega arith in
-    rw q (last-first l at (last_digits base i (n / base)) (glyph_of (n % base)) ∙ ap (λ m. sets (set l (at + m) (glyph_of (n % base))) at (last_digits base i (n / base))) (length_digits base i (n / base))
+    let s : j ≡ i = omega arith in
+    rw (q, s) (last-first l at (last_digits base i (n / base)) (glyph_of (n % base)) ∙ ap (λ m. sets (set l (at + m) (glyph_of (n % base))) at (last_digits base i (n / base))) (length_digits base i (n / base))
     ∙ ap (λ x. sets (set l (at + i) x) at (last_digits base i (n / base))) (sym e))
 
 pub none_left : (l : List ℕ) (at base i n : ℕ) → i ≡ 0 → sets l at (last_digits base i n) ≡ l
@@ -82,36 +80,13 @@ module _ (l ds : List ℕ) (at k : ℕ) (is : length ds ≡ k) where
       let q : at + 1 + k ≡ at + (k + 1) = omega arith in
       rw q (filled l (45 ∷ ds) at (k + 1) (let q : suc (length ds) ≡ k + 1 = omega arith in q) h (e ∙ ap (λ m. sets (set l at 45) m ds) (add-one at)))
 
--- a signed number is its own size, or one more than -1 - n
-one_less : (k : ℕ) → negsuc 0 -ℤ negsuc k ≡ pos k
-one_less k = ap (λ (b : Bool). cond b (negsuc (1 - suc (suc k))) (pos (suc k - 1))) (le-ltb (suc k) 1 (omega arith)) ∙ ap pos (omega arith)
-
-not-below : (k : ℕ) → lt_z (pos k) (pos 0) ≡ true → ⊥
-not-below k h = let q = ltb-true k 0 h in omega arith
-
-pub complement-fits : (n : ℤ) → SFits w32 n → SFits w32 (negsuc 0 -ℤ n)
-complement-fits (pos zero) f = record { sfits = omega arith }
-complement-fits (pos (suc k)) f = record { sfits = omega (arith, f.sfits) }
-complement-fits (negsuc k) f = rw (one_less k) (record { sfits = f.sfits })
-
-pub plain : (n : ℤ) → SFits w32 n → lt_z n (pos 0) ≡ false → T (non_neg n) × Fits w64 (nat_abs n)
-plain (pos k) f h = (tt, record { fits = omega (arith, f.sfits) })
-plain (negsuc k) f h = absurd (true≢false h)
-
-pub complement-plain : (n : ℤ) → SFits w32 n → lt_z n (pos 0) ≡ true → T (non_neg (negsuc 0 -ℤ n)) × Fits w64 (nat_abs (negsuc 0 -ℤ n))
-complement-plain (pos k) f h = absurd (not-below k h)
-complement-plain (negsuc k) f h = rw (one_less k) (tt, record { fits = omega (arith, f.sfits) })
-
-pub complement-more : (n : ℤ) → SFits w32 n → lt_z n (pos 0) ≡ true → Fits w64 (nat_abs (negsuc 0 -ℤ n) + 1)
-complement-more (pos k) f h = absurd (not-below k h)
-complement-more (negsuc k) f h = rw (one_less k) (record { fits = omega (arith, f.sfits) })
-
+-- a number and its size
 pub digits_above : (n : ℤ) → lt_z n (pos 0) ≡ false → digits_of (nat_abs n) ≡ signed_digits n
 unfolding signed_digits
 digits_above (pos k) h = refl
 digits_above (negsuc k) h = absurd (true≢false h)
 
-pub digits-below : (n : ℤ) → lt_z n (pos 0) ≡ true → 45 ∷ digits_of (nat_abs (negsuc 0 -ℤ n) + 1) ≡ signed_digits n
+pub digits-below : (n : ℤ) → lt_z n (pos 0) ≡ true → 45 ∷ digits_of (nat_abs n) ≡ signed_digits n
 unfolding signed_digits
-digits-below (pos k) h = absurd (not-below k h)
-digits-below (negsuc k) h = rw (one_less k) refl
+digits-below (pos k) h = absurd (let q = ltb-true k 0 h in omega arith)
+digits-below (negsuc k) h = rw (← add-one k) refl

@@ -1,111 +1,96 @@
 -- The lines of the block lister. `field_at l k` is field k of the line l, and field 0 its letter. Definitions only.
-use Rattle.std.specs.Prelude.{ℕ, Bool, cond, ◌&&◌, List, ltb}
+use Rattle.std.specs.Prelude.{ℕ, cond, List, [], ◌∷◌, ltb, None, Option, Some, option_map, slice_get}
+use Rattle.lines.specs.declared.block.Content.{Content}
+use Rattle.lines.specs.declared.block.Content.TheVariants.{Zeros, Noise, Ones}
 use Rattle.lines.specs.declared.block.SampleLine.{SampleLine}
-use Rattle.lines.specs.declared.block.PlayLine.{PlayLine}
+use Rattle.lines.specs.declared.block.Input.{Input}
+use Rattle.lines.specs.declared.block.Input.TheVariants.{Freq, Gate, Vel, Amp, Seed, Bend, Quality}
+use Rattle.lines.specs.declared.block.Set.{Set}
 use Rattle.lines.specs.declared.block.Line.{Line}
-use Rattle.lines.specs.declared.block.Line.TheVariants.{Unreadable, Entry, Sample, Region, Point, Filter, Band, Voice, Connect, Disconnect, Block, Ask, Reset, Close}
-use Rattle.lines.specs.Fields.{field_at, is_byte, is_none, number, single}
-use Rattle.lines.specs.Desk.{max32, max64}
-use Rattle.lines.specs.Rows.{entry_rows, sample_rows, point_rows, rate_rows, input_rows, play_rows, name_rows, region_rows, filter_rows, band_rows, line_fits, put_fields}
+use Rattle.lines.specs.declared.block.Line.TheVariants.{Entry, Sample, Part, Point, Voice, Block, Ask, Reset, Close}
+use Rattle.lines.specs.declared.block.Line.TheVariants as line
+use Rattle.lines.specs.declared.rows.Part as part
+use Rattle.lines.specs.declared.rows.Part.TheVariants.{Region, Filter, Band}
+use Rattle.lines.specs.Fields.{◌>>=◌, field_at, has_fields, is_byte, is_none, number, capital_single}
+use Rattle.lines.specs.Desk.{max32, max64, voice_at}
+use Rattle.lines.specs.Rows.{rows_of, line_fits}
 
 -- W,index,value: an entry of the sinc table
-unfoldable pub entry_line : List ℕ → Line
-entry_line l = cond (line_fits l 2 entry_rows) (Entry (number 8193 (field_at l 1)) (single (field_at l 2))) Unreadable
+unfoldable pub entry_line : List ℕ → Option Line
+entry_line l = cond (has_fields 3 l) (do
+  index ← number 8193 (field_at l 1)
+  value ← capital_single (field_at l 2)
+  Some (Entry index value)) None
 
 -- S,rate,channels,frames,kind,seed: 1 or 2 channels; kind 0 zeros, 1 noise, 2 ones
-unfoldable pub sample_test : List ℕ → Bool
-sample_test l = line_fits l 5 sample_rows && ltb 0 (number 2 (field_at l 2))
+abbrev pub content_of : ℕ → Option Content
+content_of n = slice_get (Zeros ∷ Noise ∷ Ones ∷ []) n
 
-unfoldable pub sample_at : List ℕ → SampleLine
-sample_at l = record {
-  rate = single (field_at l 1);
-  channels = number 2 (field_at l 2);
-  frames = number max32 (field_at l 3);
-  kind = number 2 (field_at l 4);
-  seed = number max64 (field_at l 5);
-}
+unfoldable pub sample_at : List ℕ → Option SampleLine
+sample_at l = do
+  rate ← capital_single (field_at l 1)
+  channels ← number 2 (field_at l 2)
+  frames ← number max32 (field_at l 3)
+  kind ← number 2 (field_at l 4)
+  content ← content_of kind
+  seed ← number max64 (field_at l 5)
+  cond (ltb 0 channels) (Some (record { rate = rate; channels = channels; frames = frames; content = content; seed = seed })) None
 
-unfoldable pub sample_line : List ℕ → Line
-sample_line l = cond (sample_test l) (Sample (sample_at l)) Unreadable
+unfoldable pub sample_line : List ℕ → Option Line
+sample_line l = cond (has_fields 6 l) (option_map Sample (sample_at l)) None
 
--- R: a region. Its words after the line, and those of a filter and of a band
-unfoldable pub region_line : List ℕ → Line
-region_line l = cond (line_fits l 47 region_rows) Region Unreadable
-
-abbrev pub region_words : List ℕ → List ℕ → List ℕ
-region_words l w = put_fields l 1 region_rows w
+-- R: a region; F: a filter; Q: an equaliser band
+unfoldable pub part_line : part.Part → List ℕ → Option Line
+part_line p l = cond (line_fits l (rows_of p)) (Some (Part p)) None
 
 -- C,velocity,gain: a velocity point
-unfoldable pub point_line : List ℕ → Line
-point_line l = cond (line_fits l 2 point_rows) (Point (number 255 (field_at l 1)) (single (field_at l 2))) Unreadable
-
--- F: a filter
-unfoldable pub filter_line : List ℕ → Line
-filter_line l = cond (line_fits l 7 filter_rows) Filter Unreadable
-
-abbrev pub filter_words : List ℕ → List ℕ → List ℕ
-filter_words l w = put_fields l 1 filter_rows w
-
--- Q: an equaliser band
-unfoldable pub band_line : List ℕ → Line
-band_line l = cond (line_fits l 6 band_rows) Band Unreadable
-
-abbrev pub band_words : List ℕ → List ℕ → List ℕ
-band_words l w = put_fields l 1 band_rows w
+unfoldable pub point_line : List ℕ → Option Line
+point_line l = cond (has_fields 3 l) (do
+  velocity ← number 255 (field_at l 1)
+  gain ← capital_single (field_at l 2)
+  Some (Point velocity gain)) None
 
 -- V,rate
-unfoldable pub voice_line : List ℕ → Line
-voice_line l = cond (line_fits l 1 rate_rows) (Voice (single (field_at l 1))) Unreadable
+unfoldable pub voice_line : List ℕ → Option Line
+voice_line l = cond (has_fields 2 l) (option_map Voice (capital_single (field_at l 1))) None
 
 -- I,input,frame,value, or `-` for both
-unfoldable pub input_at : List ℕ → Line
-input_at l =
-    cond (is_none (field_at l 2)) (Disconnect (number 6 (field_at l 1)))
-    (Connect (number 6 (field_at l 1)) (number 127 (field_at l 2)) (single (field_at l 3)))
+abbrev pub input_of : ℕ → Option Input
+input_of n = slice_get (Freq ∷ Gate ∷ Vel ∷ Amp ∷ Seed ∷ Bend ∷ Quality ∷ []) n
 
-unfoldable pub input_line : List ℕ → Line
-input_line l = cond (line_fits l 3 input_rows) (input_at l) Unreadable
+unfoldable pub set_at : List ℕ → List ℕ → Option (Option Set)
+set_at f g = cond (is_none f) (cond (is_none g) (Some None) None) (do
+  frame ← number 127 f
+  value ← capital_single g
+  Some (Some (record { frame = frame; value = value })))
+
+unfoldable pub input_line : List ℕ → Option Line
+input_line l = cond (has_fields 4 l) (do
+  n ← number 6 (field_at l 1)
+  input ← input_of n
+  set ← set_at (field_at l 2) (field_at l 3)
+  Some (line.Input input set)) None
 
 -- B,voice,offset,frames
-unfoldable pub play_at : List ℕ → PlayLine
-play_at l = record {
-  voice = number max64 (field_at l 1);
-  offset = number max64 (field_at l 2);
-  frames = number max32 (field_at l 3);
-}
+unfoldable pub play_line : List ℕ → Option Line
+play_line l = cond (has_fields 4 l) (do
+  voice ← number max64 (field_at l 1)
+  offset ← number max64 (field_at l 2)
+  frames ← number max32 (field_at l 3)
+  Some (Block (record { voice = voice; offset = offset; frames = frames }))) None
 
-unfoldable pub play_line : List ℕ → Line
-play_line l = cond (line_fits l 3 play_rows) (Block (play_at l)) Unreadable
-
--- A,voice; Z,voice; D,voice
-abbrev pub voice_at : List ℕ → ℕ
-voice_at l = number max64 (field_at l 1)
-
-unfoldable pub ask_line : List ℕ → Line
-ask_line l = cond (line_fits l 1 name_rows) (Ask (voice_at l)) Unreadable
-
-unfoldable pub reset_line : List ℕ → Line
-reset_line l = cond (line_fits l 1 name_rows) (Reset (voice_at l)) Unreadable
-
-unfoldable pub close_line : List ℕ → Line
-close_line l = cond (line_fits l 1 name_rows) (Close (voice_at l)) Unreadable
-
--- the lines that make a program, by their letters: W, S, R, C, F, Q
-unfoldable pub program_line : List ℕ → Line
-program_line l =
-    cond (is_byte 87 (field_at l 0)) (entry_line l)
-    (cond (is_byte 83 (field_at l 0)) (sample_line l)
-    (cond (is_byte 82 (field_at l 0)) (region_line l)
-    (cond (is_byte 67 (field_at l 0)) (point_line l)
-    (cond (is_byte 70 (field_at l 0)) (filter_line l)
-    (cond (is_byte 81 (field_at l 0)) (band_line l) Unreadable)))))
-
--- what a line means: V, I, B, A, Z, D, or one of a program; anything else cannot be read
-unfoldable pub block_line : List ℕ → Line
+-- what a line means, by its letter: V, I, B, A, Z, D, or W, S, R, C, F, Q of a program; anything else cannot be read
+unfoldable pub block_line : List ℕ → Option Line
 block_line l =
     cond (is_byte 86 (field_at l 0)) (voice_line l)
     (cond (is_byte 73 (field_at l 0)) (input_line l)
     (cond (is_byte 66 (field_at l 0)) (play_line l)
-    (cond (is_byte 65 (field_at l 0)) (ask_line l)
-    (cond (is_byte 90 (field_at l 0)) (reset_line l)
-    (cond (is_byte 68 (field_at l 0)) (close_line l) (program_line l))))))
+    (cond (is_byte 65 (field_at l 0)) (option_map Ask (voice_at l))
+    (cond (is_byte 90 (field_at l 0)) (option_map Reset (voice_at l))
+    (cond (is_byte 68 (field_at l 0)) (option_map Close (voice_at l))
+    (cond (is_byte 87 (field_at l 0)) (entry_line l)
+    (cond (is_byte 83 (field_at l 0)) (sample_line l)
+    (cond (is_byte 82 (field_at l 0)) (part_line Region l)
+    (cond (is_byte 67 (field_at l 0)) (point_line l)
+    (cond (is_byte 70 (field_at l 0)) (part_line Filter l)
+    (cond (is_byte 81 (field_at l 0)) (part_line Band l) None)))))))))))

@@ -1,77 +1,55 @@
--- The fields of the block lister's lines, a row for each, and the words of a region that they give (docs/PROGRAM.md). Definitions only.
-use Rattle.std.specs.Prelude.{ℕ, ◌+◌, Bool, true, false, cond, ◌&&◌, List, [], ◌∷◌, ◌++◌, get_or, set, eqb}
+-- The fields of the block lister's lines that give words of a region, a row for each, and those words (docs/PROGRAM.md). Definitions only.
+use Rattle.std.specs.Prelude.{ℕ, ◌+◌, Bool, true, false, cond, ◌&&◌, List, [], ◌∷◌, ◌++◌, length, set, Option, Some, None, is_some, unwrap_or, pos}
 use Rattle.std.specs.Float.{binary32}
 use Rattle.std.specs.Float.Ieee.{to_bits}
+use Rattle.program.specs.Region.{float_of}
+use Rattle.lines.specs.declared.rows.Form.{Form}
+use Rattle.lines.specs.declared.rows.Form.TheVariants.{Number, Single, Signed, Sample}
 use Rattle.lines.specs.declared.rows.Row.{Row}
-use Rattle.lines.specs.Fields.{field_at, has_fields, is_none, is_number, is_signed, signed, single, is_capital_single, word_of}
+use Rattle.lines.specs.declared.rows.Part.{Part}
+use Rattle.lines.specs.declared.rows.Part.TheVariants.{Region, Filter, Band}
+use Rattle.lines.specs.Fields.{field_at, has_fields, is_none, signed, hex, capital_single, word_of}
 use Rattle.lines.specs.Fields as fields
-use Rattle.lines.specs.Desk.{max32, max64, is_maybe, sample_of}
+use Rattle.lines.specs.Desk.{max32}
+use Rattle.lines.specs.Desk as desk
 
--- what a field is read as: a number of at most max, a number of 64 bits, a single in capitals, a number with its sign, a sample's number or `-`
-unfoldable pub form_fits : ℕ → ℕ → List ℕ → Bool
-form_fits form max f = get_or (is_number max f ∷ is_number max64 f ∷ is_capital_single f ∷ is_signed f ∷ []) form (is_maybe f)
+-- what a field is read as: a number of at most max, a single in capitals, a number with its sign, a sample's number or `-`
+abbrev pub form_fits : Form → List ℕ → Bool
+form_fits (Number max) f = is_some (fields.number max f)
+form_fits Single f = is_some (capital_single f)
+form_fits Signed f = is_some (signed f)
+form_fits Sample f = is_some (desk.maybe f)
 
--- the word that holds it; 0 where it is `-`. A number of 64 bits has none
-unfoldable pub form_word : ℕ → ℕ → List ℕ → ℕ
-form_word form max f = get_or (fields.number max f ∷ 0 ∷ to_bits binary32 (single f) ∷ word_of (signed f) ∷ []) form (sample_of f)
+-- the word that holds it; 0 where it is `-`
+abbrev pub form_word : Form → List ℕ → ℕ
+form_word (Number max) f = unwrap_or (fields.number max f) 0
+form_word Single f = to_bits binary32 (float_of (unwrap_or (hex f) 0))
+form_word Signed f = word_of (unwrap_or (signed f) (pos 0))
+form_word Sample f = unwrap_or (unwrap_or (desk.maybe f) (Some 0)) max32
 
--- the forms: a number, and so on. Each is put at a word of a region, where the line is one of R, F and Q
-abbrev pub row : ℕ → ℕ → ℕ → ℕ → ℕ → Row
-row form max lead flag word = record { form = form; max = max; lead = lead; flag = flag; word = word }
-
-abbrev pub no_row : Row
-no_row = row 0 0 0 0 0
+-- the rows of the forms. Each is put at a word of a region
+abbrev pub row : Form → Option ℕ → Option ℕ → ℕ → Row
+row form lead flag word = record { form = form; lead = lead; flag = flag; word = word }
 
 abbrev pub number : ℕ → ℕ → Row
-number max word = row 0 max 0 0 word
-
-abbrev pub wide : Row
-wide = row 1 0 0 0 0
+number max word = row (Number max) None None word
 
 abbrev pub bits : ℕ → Row
-bits word = row 2 0 0 0 word
+bits word = row Single None None word
 
 abbrev pub with_sign : ℕ → Row
-with_sign word = row 3 0 0 0 word
+with_sign word = row Signed None None word
 
 abbrev pub sample : ℕ → Row
-sample word = row 4 0 0 0 word
+sample word = row Sample None None word
 
 -- `-` in this field exactly where it stands in field `lead`
 abbrev pub tied : ℕ → Row → Row
-tied lead r = row r.form r.max lead r.flag r.word
+tied lead r = row r.form (Some lead) r.flag r.word
 
 -- field k may be `-`, which the word before its own says
 abbrev pub maybe : ℕ → ℕ → Row → Row
-maybe k flag r = row r.form r.max k flag r.word
-
--- W,index,value
-abbrev pub entry_rows : List Row
-entry_rows = number 8193 0 ∷ bits 0 ∷ []
-
--- S,rate,channels,frames,kind,seed
-abbrev pub sample_rows : List Row
-sample_rows = bits 0 ∷ number 2 0 ∷ number max32 0 ∷ number 2 0 ∷ wide ∷ []
-
--- C,velocity,gain
-abbrev pub point_rows : List Row
-point_rows = number 255 0 ∷ bits 0 ∷ []
-
--- V,rate
-abbrev pub rate_rows : List Row
-rate_rows = bits 0 ∷ []
-
--- I,input,frame,value
-abbrev pub input_rows : List Row
-input_rows = number 6 0 ∷ tied 2 (number 127 0) ∷ tied 2 (bits 0) ∷ []
-
--- B,voice,offset,frames
-abbrev pub play_rows : List Row
-play_rows = wide ∷ wide ∷ number max32 0 ∷ []
-
--- A,voice; Z,voice; D,voice
-abbrev pub name_rows : List Row
-name_rows = wide ∷ []
+maybe k flag r = row r.form (Some k) (Some flag) r.word
 
 -- R: sample, keys, velocities, pitch, offset and end
 abbrev pub played_rows : List Row
@@ -114,34 +92,42 @@ filter_rows = number 12 0 ∷ bits 2 ∷ bits 3 ∷ bits 4 ∷ number 255 1 ∷ 
 abbrev pub band_rows : List Row
 band_rows = number 2 0 ∷ bits 1 ∷ bits 2 ∷ bits 3 ∷ bits 4 ∷ bits 5 ∷ []
 
--- all of them, one after the other
-unfoldable pub rows : List Row
-rows = entry_rows ++ sample_rows ++ point_rows ++ rate_rows ++ input_rows ++ play_rows ++ name_rows ++ region_rows ++ filter_rows ++ band_rows
+-- the rows of the words of a region, of a filter and of a band
+unfoldable pub rows_of : Part → List Row
+rows_of Region = region_rows
+rows_of Filter = filter_rows
+rows_of Band = band_rows
 
--- whether the field that decides over another is `-`; the letter, field 0, decides over none
-unfoldable pub is_tied : List ℕ → ℕ → Bool
-is_tied l lead = cond (eqb lead 0) false (is_none (field_at l lead))
+-- whether the field that decides over another is `-`
+abbrev pub is_tied : List ℕ → Option ℕ → Bool
+is_tied l None = false
+is_tied l (Some lead) = is_none (field_at l lead)
 
 unfoldable pub row_fits : List ℕ → Row → List ℕ → Bool
-row_fits l r f = cond (is_tied l r.lead) (is_none f) (form_fits r.form r.max f)
+row_fits l r f = cond (is_tied l r.lead) (is_none f) (form_fits r.form f)
 
 -- whether the fields from k on fit their rows
 unfoldable pub fields_fit : List ℕ → ℕ → List Row → Bool
 fields_fit l k [] = true
 fields_fit l k (r ∷ rs) = row_fits l r (field_at l k) && fields_fit l (k + 1) rs
 
--- whether a line has n fields after its letter, and they fit
-unfoldable pub line_fits : List ℕ → ℕ → List Row → Bool
-line_fits l n rs = has_fields (n + 1) l && fields_fit l 1 rs
+-- whether a line has a field for each row after its letter, and they fit
+unfoldable pub line_fits : List ℕ → List Row → Bool
+line_fits l rs = has_fields (length rs + 1) l && fields_fit l 1 rs
 
--- 1 at the word `flag` where the field is there, 0 where it is `-`; no word has the flag 0
-unfoldable pub flagged : ℕ → List ℕ → List ℕ → List ℕ
-flagged flag f w = cond (eqb flag 0) w (cond (is_none f) (set w flag 0) (set w flag 1))
+-- 1 at the word `flag` where the field is there, 0 where it is `-`
+abbrev pub flagged : Option ℕ → List ℕ → List ℕ → List ℕ
+flagged None f w = w
+flagged (Some flag) f w = set w flag (cond (is_none f) 0 1)
 
 unfoldable pub put_row : Row → List ℕ → List ℕ → List ℕ
-put_row r f w = set (flagged r.flag f w) r.word (form_word r.form r.max f)
+put_row r f w = set (flagged r.flag f w) r.word (form_word r.form f)
 
 -- the words after the fields from k on
 unfoldable pub put_fields : List ℕ → ℕ → List Row → List ℕ → List ℕ
 put_fields l k [] w = w
 put_fields l k (r ∷ rs) w = put_fields l (k + 1) rs (put_row r (field_at l k) w)
+
+-- what a line makes of the words of a region, of a filter or of a band
+abbrev pub part_words : Part → List ℕ → List ℕ → List ℕ
+part_words part l w = put_fields l 1 (rows_of part) w

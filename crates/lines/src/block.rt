@@ -1,19 +1,46 @@
-// The lines of the block lister. `rows` says what each field means.
-ghost use Rattle.std.specs.Prelude.{◌≡◌};
-ghost use Rattle.lines.specs.Block.{entry_line, sample_test, sample_at, sample_line, region_line, region_words, point_line, filter_line, filter_words, band_line, band_words, voice_line, input_at, input_line, play_at, play_line, voice_at, ask_line, reset_line, close_line, program_line, block_line};
+// The lines of the block lister. `rows` says what the fields of R, F and Q mean.
+ghost use Rattle.std.specs.Prelude.{◌≡◌, Option, ok_or};
+ghost use Rattle.lines.specs.Block.{content_of, input_of, entry_line, sample_at, sample_line, part_line, point_line, voice_line, set_at, input_line, play_line, block_line};
 
-use super::desk::is_none;
-use super::field::{byte, is_byte, number, single, word};
-use super::rows::{line_fits, put_fields};
+use super::desk::voice_at;
+use super::field::{byte, capital_single, field, has_fields, is_none, number, word};
+use super::rows::{Part, gives};
 
-// Rate, 1 or 2 channels, frames of each; kind 0 zeros, 1 noise, 2 ones; the noise's seed.
+// What a sample's frames are: zeros, the noise of the line's seed, or ones.
+#[derive(Clone, Copy)]
+pub enum Content {
+    Zeros,
+    Noise,
+    Ones,
+}
+
+// Rate, 1 or 2 channels, frames of each, what they are, and the noise's seed.
 #[derive(Clone, Copy)]
 pub struct SampleLine {
     pub rate: f32,
     pub channels: u32,
     pub frames: u32,
-    pub kind: u32,
+    pub content: Content,
     pub seed: u64,
+}
+
+// The inputs of a block, in the order of their numbers.
+#[derive(Clone, Copy)]
+pub enum Input {
+    Freq,
+    Gate,
+    Vel,
+    Amp,
+    Seed,
+    Bend,
+    Quality,
+}
+
+// From which frame an input has which value.
+#[derive(Clone, Copy)]
+pub struct Set {
+    pub frame: u32,
+    pub value: f32,
 }
 
 #[derive(Clone, Copy)]
@@ -23,270 +50,195 @@ pub struct PlayLine {
     pub frames: u32,
 }
 
-// W, S, R, C, F, Q, V, I (with a frame and a value, and with none), B, A, Z, D, and every other line.
+// W, S, one of R, F and Q, C, V, I (which sets an input, or disconnects it), B, A, Z and D. What V and B hold differs from the desk
+// lister's, so that the two share no type.
 #[derive(Clone, Copy)]
 pub enum Line {
-    Unreadable,
     Entry { index: u32, value: f32 },
     Sample(SampleLine),
-    Region,
+    Part(Part),
     Point { velocity: u8, gain: f32 },
-    Filter,
-    Band,
     Voice { rate: f32 },
-    Connect { input: u32, frame: u32, value: f32 },
-    Disconnect { input: u32 },
+    Input { input: Input, set: Option<Set> },
     Block(PlayLine),
     Ask(u64),
     Reset(u64),
     Close(u64),
 }
 
-fn entry_line(line: &[u8]) -> Line
+impl TryFrom<u64> for Content {
+    type Error = ();
+
+    ghost try_from_gives = { λ n r. r ≡ ok_or (content_of n) tt };
+
+    fn try_from(n: u64) -> Result<Content, ()> {
+        match n {
+            0 => Ok(Content::Zeros),
+            1 => Ok(Content::Noise),
+            2 => Ok(Content::Ones),
+            _ => Err(()),
+        }
+    }
+}
+
+impl TryFrom<u64> for Input {
+    type Error = ();
+
+    ghost try_from_gives = { λ n r. r ≡ ok_or (input_of n) tt };
+
+    fn try_from(n: u64) -> Result<Input, ()> {
+        match n {
+            0 => Ok(Input::Freq),
+            1 => Ok(Input::Gate),
+            2 => Ok(Input::Vel),
+            3 => Ok(Input::Amp),
+            4 => Ok(Input::Seed),
+            5 => Ok(Input::Bend),
+            6 => Ok(Input::Quality),
+            _ => Err(()),
+        }
+    }
+}
+
+// W,index,value.
+#[tactic(auto, unfolding(crate::specs::Block::entry_line))]
+fn entry_line(line: &[u8]) -> Option<Line>
     ensures { result ≡ entry_line line.now }
 {
-    if !line_fits(line, 0, 2) {
-        return Line::Unreadable;
+    if !has_fields(line, 3) {
+        return None;
     }
-    let index = word(line, 1, 8193);
-    let value = single(line, 2);
-    Line::Entry { index, value }
+    let index = word(field(line, 1), 8193)?;
+    let value = capital_single(field(line, 2))?;
+    Some(Line::Entry { index, value })
 }
 
-fn sample_fits(line: &[u8]) -> bool
-    ensures { result ≡ sample_test line.now }
-{
-    if !line_fits(line, 2, 5) {
-        return false;
-    }
-    0 < word(line, 2, 2)
-}
-
-fn sample_at(line: &[u8]) -> SampleLine
+#[tactic(auto, unfolding(crate::specs::Block::sample_at))]
+fn sample_at(line: &[u8]) -> Option<SampleLine>
     ensures { result ≡ sample_at line.now }
 {
-    let rate = single(line, 1);
-    let channels = word(line, 2, 2);
-    let frames = word(line, 3, 0xffff_ffff);
-    let kind = word(line, 4, 2);
-    let seed = number(line, 5, 0xffff_ffff_ffff_ffff);
-    SampleLine {
+    let rate = capital_single(field(line, 1))?;
+    let channels = word(field(line, 2), 2)?;
+    let frames = word(field(line, 3), u32::MAX)?;
+    let content = Content::try_from(number(field(line, 4), 2)?).ok()?;
+    let seed = number(field(line, 5), u64::MAX)?;
+    if channels == 0 {
+        return None;
+    }
+    Some(SampleLine {
         rate,
         channels,
         frames,
-        kind,
+        content,
         seed,
-    }
+    })
 }
 
-fn sample_line(line: &[u8]) -> Line
+// S,rate,channels,frames,kind,seed.
+#[tactic(auto, unfolding(crate::specs::Block::sample_line))]
+fn sample_line(line: &[u8]) -> Option<Line>
     ensures { result ≡ sample_line line.now }
 {
-    if !sample_fits(line) {
-        return Line::Unreadable;
+    if !has_fields(line, 6) {
+        return None;
     }
-    let sample = sample_at(line);
-    Line::Sample(sample)
+    sample_at(line).map(Line::Sample)
 }
 
-fn region_line(line: &[u8]) -> Line
-    ensures { result ≡ region_line line.now }
+// R, F or Q.
+#[tactic(auto, unfolding(crate::specs::Block::part_line))]
+fn part_line(line: &[u8], part: Part) -> Option<Line>
+    ensures { result ≡ part_line part line.now }
 {
-    if !line_fits(line, 17, 47) {
-        return Line::Unreadable;
-    }
-    Line::Region
+    gives(line, part).then_some(Line::Part(part))
 }
 
-// The words of an R line's region.
-pub fn put_region(line: &[u8], w: &mut [u32])
-    ensures { w.new ≡ region_words line.now w.old }
-{
-    put_fields(line, 17, 47, w);
-}
-
-fn point_line(line: &[u8]) -> Line
+// C,velocity,gain.
+#[tactic(auto, unfolding(crate::specs::Block::point_line))]
+fn point_line(line: &[u8]) -> Option<Line>
     ensures { result ≡ point_line line.now }
 {
-    if !line_fits(line, 7, 2) {
-        return Line::Unreadable;
+    if !has_fields(line, 3) {
+        return None;
     }
-    let velocity = byte(line, 1, 255);
-    let gain = single(line, 2);
-    Line::Point { velocity, gain }
+    let velocity = byte(field(line, 1), 255)?;
+    let gain = capital_single(field(line, 2))?;
+    Some(Line::Point { velocity, gain })
 }
 
-fn filter_line(line: &[u8]) -> Line
-    ensures { result ≡ filter_line line.now }
-{
-    if !line_fits(line, 64, 7) {
-        return Line::Unreadable;
-    }
-    Line::Filter
-}
-
-// The seven words of an F line's filter.
-pub fn put_filter(line: &[u8], w: &mut [u32])
-    ensures { w.new ≡ filter_words line.now w.old }
-{
-    put_fields(line, 64, 7, w);
-}
-
-fn band_line(line: &[u8]) -> Line
-    ensures { result ≡ band_line line.now }
-{
-    if !line_fits(line, 71, 6) {
-        return Line::Unreadable;
-    }
-    Line::Band
-}
-
-// The six words of a Q line's band.
-pub fn put_band(line: &[u8], w: &mut [u32])
-    ensures { w.new ≡ band_words line.now w.old }
-{
-    put_fields(line, 71, 6, w);
-}
-
-fn voice_line(line: &[u8]) -> Line
+// V,rate.
+#[tactic(auto, unfolding(crate::specs::Block::voice_line))]
+fn voice_line(line: &[u8]) -> Option<Line>
     ensures { result ≡ voice_line line.now }
 {
-    if !line_fits(line, 9, 1) {
-        return Line::Unreadable;
+    if !has_fields(line, 2) {
+        return None;
     }
-    let rate = single(line, 1);
-    Line::Voice { rate }
+    capital_single(field(line, 1)).map(|rate| Line::Voice { rate })
 }
 
-fn input_at(line: &[u8]) -> Line
-    ensures { result ≡ input_at line.now }
+// A frame and a value, or `-` for both.
+#[tactic(auto, unfolding(crate::specs::Block::set_at))]
+fn set_at(frame: &[u8], value: &[u8]) -> Option<Option<Set>>
+    ensures { result ≡ set_at frame.now value.now }
 {
-    let input = word(line, 1, 6);
-    if is_none(line, 2) {
-        return Line::Disconnect { input };
+    if is_none(frame) {
+        return is_none(value).then_some(None);
     }
-    let frame = word(line, 2, 127);
-    let value = single(line, 3);
-    Line::Connect {
-        input,
-        frame,
-        value,
-    }
+    let frame = word(frame, 127)?;
+    let value = capital_single(value)?;
+    Some(Some(Set { frame, value }))
 }
 
-fn input_line(line: &[u8]) -> Line
+// I,input,frame,value.
+#[tactic(auto, unfolding(crate::specs::Block::input_line))]
+fn input_line(line: &[u8]) -> Option<Line>
     ensures { result ≡ input_line line.now }
 {
-    if !line_fits(line, 10, 3) {
-        return Line::Unreadable;
+    if !has_fields(line, 4) {
+        return None;
     }
-    input_at(line)
+    let input = Input::try_from(number(field(line, 1), 6)?).ok()?;
+    let set = set_at(field(line, 2), field(line, 3))?;
+    Some(Line::Input { input, set })
 }
 
-fn play_at(line: &[u8]) -> PlayLine
-    ensures { result ≡ play_at line.now }
+// B,voice,offset,frames.
+#[tactic(auto, unfolding(crate::specs::Block::play_line))]
+fn play_line(line: &[u8]) -> Option<Line>
+    ensures { result ≡ play_line line.now }
 {
-    let voice = number(line, 1, 0xffff_ffff_ffff_ffff);
-    let offset = number(line, 2, 0xffff_ffff_ffff_ffff);
-    let frames = word(line, 3, 0xffff_ffff);
-    PlayLine {
+    if !has_fields(line, 4) {
+        return None;
+    }
+    let voice = number(field(line, 1), u64::MAX)?;
+    let offset = number(field(line, 2), u64::MAX)?;
+    let frames = word(field(line, 3), u32::MAX)?;
+    Some(Line::Block(PlayLine {
         voice,
         offset,
         frames,
-    }
+    }))
 }
 
-fn play_line(line: &[u8]) -> Line
-    ensures { result ≡ play_line line.now }
-{
-    if !line_fits(line, 13, 3) {
-        return Line::Unreadable;
-    }
-    let play = play_at(line);
-    Line::Block(play)
-}
-
-fn voice_at(line: &[u8]) -> u64
-    ensures { result ≡ voice_at line.now }
-{
-    number(line, 1, 0xffff_ffff_ffff_ffff)
-}
-
-fn ask_line(line: &[u8]) -> Line
-    ensures { result ≡ ask_line line.now }
-{
-    if !line_fits(line, 16, 1) {
-        return Line::Unreadable;
-    }
-    let voice = voice_at(line);
-    Line::Ask(voice)
-}
-
-fn reset_line(line: &[u8]) -> Line
-    ensures { result ≡ reset_line line.now }
-{
-    if !line_fits(line, 16, 1) {
-        return Line::Unreadable;
-    }
-    let voice = voice_at(line);
-    Line::Reset(voice)
-}
-
-fn close_line(line: &[u8]) -> Line
-    ensures { result ≡ close_line line.now }
-{
-    if !line_fits(line, 16, 1) {
-        return Line::Unreadable;
-    }
-    let voice = voice_at(line);
-    Line::Close(voice)
-}
-
-fn program_line(line: &[u8]) -> Line
-    ensures { result ≡ program_line line.now }
-{
-    if is_byte(line, 0, b'W') {
-        return entry_line(line);
-    }
-    if is_byte(line, 0, b'S') {
-        return sample_line(line);
-    }
-    if is_byte(line, 0, b'R') {
-        return region_line(line);
-    }
-    if is_byte(line, 0, b'C') {
-        return point_line(line);
-    }
-    if is_byte(line, 0, b'F') {
-        return filter_line(line);
-    }
-    if is_byte(line, 0, b'Q') {
-        return band_line(line);
-    }
-    Line::Unreadable
-}
-
-// What a line means. Of R, F and Q it says that they can be read; `put_region`, `put_filter` and `put_band` give their words.
-pub fn read_block_line(line: &[u8]) -> Line
+// What a line means; none of any that cannot be read. Of R, F and Q it says that they can be read: `put_part` gives their words.
+#[tactic(auto, unfolding(crate::specs::Block::block_line, crate::specs::Fields::is_byte))]
+pub fn read_block_line(line: &[u8]) -> Option<Line>
     ensures { result ≡ block_line line.now }
 {
-    if is_byte(line, 0, b'V') {
-        return voice_line(line);
+    match field(line, 0) {
+        b"V" => voice_line(line),
+        b"I" => input_line(line),
+        b"B" => play_line(line),
+        b"A" => voice_at(line).map(Line::Ask),
+        b"Z" => voice_at(line).map(Line::Reset),
+        b"D" => voice_at(line).map(Line::Close),
+        b"W" => entry_line(line),
+        b"S" => sample_line(line),
+        b"R" => part_line(line, Part::Region),
+        b"C" => point_line(line),
+        b"F" => part_line(line, Part::Filter),
+        b"Q" => part_line(line, Part::Band),
+        _ => None,
     }
-    if is_byte(line, 0, b'I') {
-        return input_line(line);
-    }
-    if is_byte(line, 0, b'B') {
-        return play_line(line);
-    }
-    if is_byte(line, 0, b'A') {
-        return ask_line(line);
-    }
-    if is_byte(line, 0, b'Z') {
-        return reset_line(line);
-    }
-    if is_byte(line, 0, b'D') {
-        return close_line(line);
-    }
-    program_line(line)
 }

@@ -1,28 +1,24 @@
 // 01's lines of the desk lister. `field` says what each field means.
-ghost use Rattle.std.specs.Prelude.{◌≡◌};
-ghost use Rattle.lines.specs.Fields.{field_at, is_none};
-ghost use Rattle.program.specs.Valid.{every};
-ghost use Rattle.lines.specs.Desk.{is_maybe, is_off_by, off_by_field, is_seq, sample_of, sample_tests, sample_line, window_tests, rules_tests, region_tests, window_at, region_at, region_line, voice_line, block_tests, block_at, block_line, names_voice, voice_at, reset_line, close_line, desk_line};
+ghost use Rattle.std.specs.Prelude.{◌≡◌, Option};
+ghost use Rattle.lines.specs.Desk.{or_none, maybe, off_by, sample_line, window_at, region_at, region_line, voice_line, block_at, block_line, voice_at, desk_line};
 ghost use Rattle.lines.specs.Desk as specs;
 
-use super::field::{
-    byte, has_fields, is_byte, is_number, is_signed, is_single, is_six_digits, number, signed,
-    single, word,
-};
-use program::region::{MaybeU32, OffBy, Seq, Window};
+use super::field::{byte, field, has_fields, is_none, number, signed, single, six_digits, word};
+use program::region::{Seq, Window};
 
-// A region as the desk lister gives it; `sample` is 0xffff_ffff for silence, the enums are counted from 0 as declared.
+// A region as the desk lister gives it: no sample is silence. The modes stay numbers, counted from 0 as the enums are declared, since
+// they are the region's words too (docs/PROGRAM.md): a type between them would only be made and unmade.
 #[derive(Clone, Copy)]
 pub struct RegionLine {
-    pub sample: u32,
+    pub sample: Option<u32>,
     pub window: Window,
     pub loop_mode: u8,
     pub trigger: u8,
     pub group: i32,
-    pub off_by: OffBy,
-    pub note_polyphony: MaybeU32,
-    pub polyphony: MaybeU32,
-    pub seq: Seq,
+    pub off_by: Option<i32>,
+    pub note_polyphony: Option<u32>,
+    pub polyphony: Option<u32>,
+    pub seq: Option<Seq>,
 }
 
 #[derive(Clone, Copy)]
@@ -35,10 +31,9 @@ pub struct BlockLine {
     pub vel: f32,
 }
 
-// The lines S, R, V, B, Z and D, and every other.
+// The lines S, R, V, B, Z and D.
 #[derive(Clone, Copy)]
 pub enum DeskLine {
-    Unreadable,
     Sample { rate: u32, frames: u32 },
     Region(RegionLine),
     Voice { rate: u32 },
@@ -47,336 +42,177 @@ pub enum DeskLine {
     Close(u64),
 }
 
-pub(crate) fn is_none(line: &[u8], k: usize) -> bool
-    ensures { result ≡ is_none (field_at line.now k) }
+// What is read of a field, which may be `-` for none.
+fn or_none<T: Drop>(f: &[u8], read: Option<T>) -> Option<Option<T>>
+    ensures { result ≡ or_none f.now read }
 {
-    is_byte(line, k, b'-')
+    if is_none(f) {
+        return Some(None);
+    }
+    Some(Some(read?))
 }
 
 // A number or `-`.
-pub(crate) fn is_maybe(line: &[u8], k: usize) -> bool
-    ensures { result ≡ is_maybe (field_at line.now k) }
+pub(crate) fn maybe(f: &[u8]) -> Option<Option<u32>>
+    ensures { result ≡ maybe f.now }
 {
-    if is_none(line, k) {
-        return true;
-    }
-    is_number(line, k, 0xffff_ffff)
+    or_none(f, word(f, u32::MAX))
 }
 
-fn maybe(line: &[u8], k: usize) -> MaybeU32
-    ensures { result ≡ specs.maybe (field_at line.now k) }
+fn off_by(f: &[u8]) -> Option<Option<i32>>
+    ensures { result ≡ off_by f.now }
 {
-    if is_none(line, k) {
-        return MaybeU32::Absent;
-    }
-    let n = word(line, k, 0xffff_ffff);
-    MaybeU32::Present(n)
-}
-
-fn is_off_by(line: &[u8], k: usize) -> bool
-    ensures { result ≡ is_off_by (field_at line.now k) }
-{
-    if is_none(line, k) {
-        return true;
-    }
-    is_signed(line, k)
-}
-
-fn off_by(line: &[u8], k: usize) -> OffBy
-    ensures { result ≡ off_by_field (field_at line.now k) }
-{
-    if is_none(line, k) {
-        return OffBy::Nobody;
-    }
-    let group = signed(line, k);
-    OffBy::Group(group)
+    or_none(f, signed(f))
 }
 
 // Two numbers, or `-` in both fields.
-fn is_seq(line: &[u8], j: usize, k: usize) -> bool
-    ensures { result ≡ is_seq (field_at line.now j) (field_at line.now k) }
+#[tactic(auto, unfolding(crate::specs::Desk::seq))]
+fn seq(f: &[u8], g: &[u8]) -> Option<Option<Seq>>
+    ensures { result ≡ specs.seq f.now g.now }
 {
-    if is_none(line, j) {
-        return is_none(line, k);
+    if is_none(f) {
+        return is_none(g).then_some(None);
     }
-    if !is_number(line, j, 0xffff_ffff) {
-        return false;
-    }
-    is_number(line, k, 0xffff_ffff)
-}
-
-fn seq(line: &[u8], j: usize, k: usize) -> Seq
-    ensures { result ≡ specs.seq (field_at line.now j) (field_at line.now k) }
-{
-    if is_none(line, j) {
-        return Seq::EveryTime;
-    }
-    let length = word(line, j, 0xffff_ffff);
-    let position = word(line, k, 0xffff_ffff);
-    Seq::InTurn { length, position }
-}
-
-pub(crate) fn sample_of(line: &[u8], k: usize) -> u32
-    ensures { result ≡ sample_of (field_at line.now k) }
-{
-    if is_none(line, k) {
-        return 0xffff_ffff;
-    }
-    word(line, k, 0xffff_ffff)
+    let length = word(f, u32::MAX)?;
+    let position = word(g, u32::MAX)?;
+    Some(Some(Seq { length, position }))
 }
 
 // S,rate,frames: 1 to 8,000 frames.
-fn sample_ok(line: &[u8]) -> bool
-    ensures { result ≡ every (sample_tests line.now) }
-{
-    if !has_fields(line, 3) {
-        return false;
-    }
-    if !is_six_digits(line, 1) {
-        return false;
-    }
-    if !is_six_digits(line, 2) {
-        return false;
-    }
-    let frames = word(line, 2, 999999);
-    if frames == 0 {
-        return false;
-    }
-    frames <= 8000
-}
-
-fn sample_line(line: &[u8]) -> DeskLine
+#[tactic(auto, unfolding(crate::specs::Desk::sample_line))]
+fn sample_line(line: &[u8]) -> Option<DeskLine>
     ensures { result ≡ sample_line line.now }
 {
-    if !sample_ok(line) {
-        return DeskLine::Unreadable;
+    if !has_fields(line, 3) {
+        return None;
     }
-    let rate = word(line, 1, 999999);
-    let frames = word(line, 2, 999999);
-    DeskLine::Sample { rate, frames }
+    let rate = six_digits(field(line, 1))?;
+    let frames = six_digits(field(line, 2))?;
+    if frames == 0 || 8000 < frames {
+        return None;
+    }
+    Some(DeskLine::Sample { rate, frames })
 }
 
-fn window_ok(line: &[u8]) -> bool
-    ensures { result ≡ every (window_tests line.now) }
-{
-    if !is_number(line, 2, 255) {
-        return false;
-    }
-    if !is_number(line, 3, 255) {
-        return false;
-    }
-    if !is_number(line, 4, 255) {
-        return false;
-    }
-    is_number(line, 5, 255)
-}
-
-fn rules_ok(line: &[u8]) -> bool
-    ensures { result ≡ every (rules_tests line.now) }
-{
-    if !is_signed(line, 8) {
-        return false;
-    }
-    if !is_off_by(line, 9) {
-        return false;
-    }
-    if !is_maybe(line, 10) {
-        return false;
-    }
-    if !is_maybe(line, 11) {
-        return false;
-    }
-    is_seq(line, 12, 13)
-}
-
-fn region_ok(line: &[u8]) -> bool
-    ensures { result ≡ every (region_tests line.now) }
-{
-    if !has_fields(line, 14) {
-        return false;
-    }
-    if !is_maybe(line, 1) {
-        return false;
-    }
-    if !window_ok(line) {
-        return false;
-    }
-    if !is_number(line, 6, 3) {
-        return false;
-    }
-    if !is_number(line, 7, 4) {
-        return false;
-    }
-    rules_ok(line)
-}
-
-fn window_at(line: &[u8]) -> Window
+#[tactic(auto, unfolding(crate::specs::Desk::window_at))]
+fn window_at(line: &[u8]) -> Option<Window>
     ensures { result ≡ window_at line.now }
 {
-    let lokey = byte(line, 2, 255);
-    let hikey = byte(line, 3, 255);
-    let lovel = byte(line, 4, 255);
-    let hivel = byte(line, 5, 255);
-    Window {
+    let lokey = byte(field(line, 2), 255)?;
+    let hikey = byte(field(line, 3), 255)?;
+    let lovel = byte(field(line, 4), 255)?;
+    let hivel = byte(field(line, 5), 255)?;
+    Some(Window {
         lokey,
         hikey,
         lovel,
         hivel,
-    }
+    })
 }
 
-fn region_at(line: &[u8]) -> RegionLine
+#[tactic(auto, unfolding(crate::specs::Desk::region_at))]
+fn region_at(line: &[u8]) -> Option<RegionLine>
     ensures { result ≡ region_at line.now }
 {
-    RegionLine {
-        sample: sample_of(line, 1),
-        window: window_at(line),
-        loop_mode: byte(line, 6, 3),
-        trigger: byte(line, 7, 4),
-        group: signed(line, 8),
-        off_by: off_by(line, 9),
-        note_polyphony: maybe(line, 10),
-        polyphony: maybe(line, 11),
-        seq: seq(line, 12, 13),
-    }
+    let sample = maybe(field(line, 1))?;
+    let window = window_at(line)?;
+    let loop_mode = byte(field(line, 6), 3)?;
+    let trigger = byte(field(line, 7), 4)?;
+    let group = signed(field(line, 8))?;
+    let off_by = off_by(field(line, 9))?;
+    let note_polyphony = maybe(field(line, 10))?;
+    let polyphony = maybe(field(line, 11))?;
+    let seq = seq(field(line, 12), field(line, 13))?;
+    Some(RegionLine {
+        sample,
+        window,
+        loop_mode,
+        trigger,
+        group,
+        off_by,
+        note_polyphony,
+        polyphony,
+        seq,
+    })
 }
 
 // R,sample,lokey,hikey,lovel,hivel,loop_mode,trigger,group,off_by,note_polyphony,polyphony,seq_length,seq_position.
-fn region_line(line: &[u8]) -> DeskLine
+#[tactic(auto, unfolding(crate::specs::Desk::region_line))]
+fn region_line(line: &[u8]) -> Option<DeskLine>
     ensures { result ≡ region_line line.now }
 {
-    if !region_ok(line) {
-        return DeskLine::Unreadable;
+    if !has_fields(line, 14) {
+        return None;
     }
-    let region = region_at(line);
-    DeskLine::Region(region)
+    region_at(line).map(DeskLine::Region)
 }
 
 // V,rate.
-fn voice_line(line: &[u8]) -> DeskLine
+#[tactic(auto, unfolding(crate::specs::Desk::voice_line))]
+fn voice_line(line: &[u8]) -> Option<DeskLine>
     ensures { result ≡ voice_line line.now }
 {
     if !has_fields(line, 2) {
-        return DeskLine::Unreadable;
+        return None;
     }
-    if !is_six_digits(line, 1) {
-        return DeskLine::Unreadable;
-    }
-    let rate = word(line, 1, 999999);
-    DeskLine::Voice { rate }
+    let rate = six_digits(field(line, 1))?;
+    Some(DeskLine::Voice { rate })
 }
 
-fn block_ok(line: &[u8]) -> bool
-    ensures { result ≡ every (block_tests line.now) }
-{
-    if !has_fields(line, 7) {
-        return false;
-    }
-    if !is_number(line, 1, 0xffff_ffff_ffff_ffff) {
-        return false;
-    }
-    if !is_number(line, 2, 0xffff_ffff_ffff_ffff) {
-        return false;
-    }
-    if !is_six_digits(line, 3) {
-        return false;
-    }
-    if !is_number(line, 4, 1) {
-        return false;
-    }
-    if !is_single(line, 5) {
-        return false;
-    }
-    is_single(line, 6)
-}
-
-fn block_at(line: &[u8]) -> BlockLine
+#[tactic(auto, unfolding(crate::specs::Desk::block_at))]
+fn block_at(line: &[u8]) -> Option<BlockLine>
     ensures { result ≡ block_at line.now }
 {
-    let voice = number(line, 1, 0xffff_ffff_ffff_ffff);
-    let offset = number(line, 2, 0xffff_ffff_ffff_ffff);
-    let frames = word(line, 3, 999999);
-    let gate = number(line, 4, 1);
-    let freq = single(line, 5);
-    let vel = single(line, 6);
-    BlockLine {
+    let voice = number(field(line, 1), u64::MAX)?;
+    let offset = number(field(line, 2), u64::MAX)?;
+    let frames = six_digits(field(line, 3))?;
+    let gate = number(field(line, 4), 1)?;
+    let freq = single(field(line, 5))?;
+    let vel = single(field(line, 6))?;
+    Some(BlockLine {
         voice,
         offset,
         frames,
         gate: gate == 1,
         freq,
         vel,
-    }
+    })
 }
 
 // B,voice,offset,frames,gate,freq,vel.
-fn block_line(line: &[u8]) -> DeskLine
+#[tactic(auto, unfolding(crate::specs::Desk::block_line))]
+fn block_line(line: &[u8]) -> Option<DeskLine>
     ensures { result ≡ block_line line.now }
 {
-    if !block_ok(line) {
-        return DeskLine::Unreadable;
+    if !has_fields(line, 7) {
+        return None;
     }
-    let block = block_at(line);
-    DeskLine::Block(block)
+    block_at(line).map(DeskLine::Block)
 }
 
-// Whether Z,voice or D,voice names a voice.
-fn names_voice(line: &[u8]) -> bool
-    ensures { result ≡ names_voice line.now }
-{
-    if !has_fields(line, 2) {
-        return false;
-    }
-    is_number(line, 1, 0xffff_ffff_ffff_ffff)
-}
-
-fn voice_at(line: &[u8]) -> u64
+// The voice that Z,voice or D,voice names.
+#[tactic(auto, unfolding(crate::specs::Desk::voice_at))]
+pub(crate) fn voice_at(line: &[u8]) -> Option<u64>
     ensures { result ≡ voice_at line.now }
 {
-    number(line, 1, 0xffff_ffff_ffff_ffff)
-}
-
-fn reset_line(line: &[u8]) -> DeskLine
-    ensures { result ≡ reset_line line.now }
-{
-    if !names_voice(line) {
-        return DeskLine::Unreadable;
+    if !has_fields(line, 2) {
+        return None;
     }
-    let voice = voice_at(line);
-    DeskLine::Reset(voice)
+    number(field(line, 1), u64::MAX)
 }
 
-fn close_line(line: &[u8]) -> DeskLine
-    ensures { result ≡ close_line line.now }
-{
-    if !names_voice(line) {
-        return DeskLine::Unreadable;
-    }
-    let voice = voice_at(line);
-    DeskLine::Close(voice)
-}
-
-// What a line means.
-pub fn read_desk(line: &[u8]) -> DeskLine
+// What a line means; none of any that cannot be read.
+#[tactic(auto, unfolding(crate::specs::Desk::desk_line, crate::specs::Fields::is_byte))]
+pub fn read_desk(line: &[u8]) -> Option<DeskLine>
     ensures { result ≡ desk_line line.now }
 {
-    if is_byte(line, 0, b'S') {
-        return sample_line(line);
+    match field(line, 0) {
+        b"S" => sample_line(line),
+        b"R" => region_line(line),
+        b"V" => voice_line(line),
+        b"B" => block_line(line),
+        b"Z" => voice_at(line).map(DeskLine::Reset),
+        b"D" => voice_at(line).map(DeskLine::Close),
+        _ => None,
     }
-    if is_byte(line, 0, b'R') {
-        return region_line(line);
-    }
-    if is_byte(line, 0, b'V') {
-        return voice_line(line);
-    }
-    if is_byte(line, 0, b'B') {
-        return block_line(line);
-    }
-    if is_byte(line, 0, b'Z') {
-        return reset_line(line);
-    }
-    if is_byte(line, 0, b'D') {
-        return close_line(line);
-    }
-    DeskLine::Unreadable
 }

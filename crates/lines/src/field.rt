@@ -1,299 +1,148 @@
 // The fields of a line, and the readers of each kind of field.
-ghost use Rattle.std.specs.Prelude.{◌≡◌, ◌+◌, ◌-◌, ◌≤◌, ◌<◌, length, take, drop};
-ghost use Rattle.lines.specs.Fields.{fields_of, field_at, has_fields, digit_of, numeral_of, is_byte, is_number, is_six_digits, is_minus, is_signed, is_single, no_small, is_capital_single, word_of};
+ghost use Rattle.std.specs.Prelude.{◌≡◌, ◌≤◌, ◌<◌, length, IfSome};
+ghost use Rattle.lines.specs.Fields.{field_at, has_fields, numeral, number, is_byte, is_none, six_digits, signed, hex, single, no_small, capital_single};
 ghost use Rattle.lines.specs.Fields as specs;
 
 use program::region::float_of;
-
-// Where field `k` begins; the line's end where there are fewer.
-fn start_of(line: &[u8], k: usize) -> usize
-    ensures { (result ≤ length line.now) × (field_at line.now k ≡ field_at (drop result line.now) 0) }
-{
-    let mut at: usize = 0;
-    let mut more = k;
-    while at < line.len() {
-        if more == 0 {
-            return at;
-        }
-        if line[at] == b',' {
-            more -= 1;
-        }
-        at += 1;
-    }
-    at
-}
-
-// Where the field that begins at `from` ends.
-fn end_of(line: &[u8], from: usize) -> usize
-    requires { from ≤ length line.now }
-    ensures { (from ≤ result) × (result ≤ length line.now) × (take (result - from) (drop from line.now) ≡ field_at (drop from line.now) 0) }
-{
-    let mut at = from;
-    while at < line.len() {
-        if line[at] == b',' {
-            return at;
-        }
-        at += 1;
-    }
-    at
-}
 
 // Field `k`, counted from 0; an empty one where there are fewer.
 pub fn field(line: &[u8], k: usize) -> &[u8]
     ensures { result.now ≡ field_at line.now k }
 {
-    let a = start_of(line, k);
-    let b = end_of(line, a);
-    &line[a..b]
-}
-
-fn commas(line: &[u8]) -> usize
-    ensures { length (fields_of line.now) ≡ result + 1 }
-{
-    let mut n: usize = 0;
-    let mut i: usize = 0;
-    while i < line.len() {
-        if line[i] == b',' {
-            n += 1;
-        }
-        i += 1;
-    }
-    n
+    line.split(|c| *c == b',').nth(k).unwrap_or(&[])
 }
 
 // Whether the line has `n` fields.
 pub fn has_fields(line: &[u8], n: usize) -> bool
     ensures { result ≡ has_fields n line.now }
 {
-    let c = commas(line);
-    if n == 0 {
-        return false;
-    }
-    c == n - 1
-}
-
-fn digit(c: u8) -> u64
-    ensures { result ≡ digit_of c }
-{
-    if c < 48 {
-        return 16;
-    }
-    if c < 58 {
-        return (c - 48) as u64;
-    }
-    if c < 65 {
-        return 16;
-    }
-    if c < 71 {
-        return (c - 55) as u64;
-    }
-    if c < 97 {
-        return 16;
-    }
-    if c < 103 {
-        return (c - 87) as u64;
-    }
-    16
-}
-
-// What a field of digits means.
-#[derive(Drop)]
-pub struct Numeral {
-    pub read: bool,
-    pub value: u64,
+    line.split(|c| *c == b',').count() == n
 }
 
 // The number that the digits of a base mean, where it is at most `max`.
-fn read_numeral(f: &[u8], base: u64, max: u64) -> Numeral
-    requires { 0 < base }
-    ensures { result ≡ numeral_of base max f.now }
+fn numeral(f: &[u8], base: u32, max: u64) -> Option<u64>
+    requires { (2 ≤ base) × (base ≤ 16) }
+    ensures value { result ≡ numeral base max f.now }
+    ensures bound { IfSome result (λ n. n ≤ max) }
 {
-    if f.len() == 0 {
-        return Numeral {
-            read: false,
-            value: 0,
-        };
+    if f.is_empty() {
+        return None;
     }
-    let mut v: u64 = 0;
-    let mut i: usize = 0;
-    while i < f.len() {
-        let d = digit(f[i]);
-        if base <= d {
-            return Numeral {
-                read: false,
-                value: 0,
-            };
+    let mut n: u64 = 0;
+    for c in f {
+        let d = char::from(*c).to_digit(base)?;
+        n = n.checked_mul(base as u64)?.checked_add(d as u64)?;
+        if max < n {
+            return None;
         }
-        if max < d {
-            return Numeral {
-                read: false,
-                value: 0,
-            };
-        }
-        if (max - d) / base < v {
-            return Numeral {
-                read: false,
-                value: 0,
-            };
-        }
-        v = v * base + d;
-        i += 1;
     }
-    Numeral {
-        read: true,
-        value: v,
-    }
+    Some(n)
 }
 
-// Whether field `k` is the one byte `b`.
-pub fn is_byte(line: &[u8], k: usize, b: u8) -> bool
-    ensures { result ≡ is_byte b (field_at line.now k) }
+// Whether a field is the one byte `b`.
+#[tactic(auto, unfolding(crate::specs::Fields::is_byte))]
+pub fn is_byte(f: &[u8], b: u8) -> bool
+    ensures { result ≡ is_byte b f.now }
 {
-    let f = field(line, k);
-    if f.len() != 1 {
-        return false;
-    }
-    f[0] == b
+    f.len() == 1 && f[0] == b
 }
 
-// Whether field `k` is a whole number of at most `max`.
-pub fn is_number(line: &[u8], k: usize, max: u64) -> bool
-    ensures { result ≡ is_number max (field_at line.now k) }
+// Whether a field is `-`, which stands for none.
+pub fn is_none(f: &[u8]) -> bool
+    ensures { result ≡ is_none f.now }
 {
-    let f = field(line, k);
-    let n = read_numeral(f, 10, max);
-    n.read
+    is_byte(f, b'-')
 }
 
-// That number; 0 where it is none.
-pub fn number(line: &[u8], k: usize, max: u64) -> u64
-    ensures { (result ≡ specs.number max (field_at line.now k)) × (result ≤ max) }
+// A whole number of at most `max`.
+pub fn number(f: &[u8], max: u64) -> Option<u64>
+    ensures value { result ≡ number max f.now }
+    ensures bound { IfSome result (λ n. n ≤ max) }
 {
-    let f = field(line, k);
-    let n = read_numeral(f, 10, max);
-    n.value
+    numeral(f, 10, max)
 }
 
-// Field `k` as a byte, and as a word.
-pub fn byte(line: &[u8], k: usize, max: u8) -> u8
-    ensures { result ≡ specs.number max (field_at line.now k) }
+// The same as a word.
+pub fn word(f: &[u8], max: u32) -> Option<u32>
+    ensures { result ≡ number max f.now }
 {
-    number(line, k, max as u64) as u8
+    let n = number(f, max as u64)?;
+    Some(n as u32)
 }
 
-pub fn word(line: &[u8], k: usize, max: u32) -> u32
-    ensures { result ≡ specs.number max (field_at line.now k) }
+// The same as a byte. One function of both types would ask of them what `TryFrom<u64>` gives, where a cast says it.
+pub fn byte(f: &[u8], max: u8) -> Option<u8>
+    ensures { result ≡ number max f.now }
 {
-    number(line, k, max as u64) as u32
+    let n = number(f, max as u64)?;
+    Some(n as u8)
 }
 
-// Whether field `k` is a number of at most six digits.
-pub fn is_six_digits(line: &[u8], k: usize) -> bool
-    ensures { result ≡ is_six_digits (field_at line.now k) }
+// A number of at most six digits.
+#[tactic(auto, unfolding(crate::specs::Fields::six_digits))]
+pub fn six_digits(f: &[u8]) -> Option<u32>
+    ensures { result ≡ six_digits f.now }
 {
-    let f = field(line, k);
     if 6 < f.len() {
-        return false;
+        return None;
     }
-    is_number(line, k, 999999)
+    let n = number(f, 999999)?;
+    Some(n as u32)
 }
 
-fn is_minus(f: &[u8]) -> bool
-    ensures { result ≡ is_minus f.now }
+// A whole number of 32 bits with its sign.
+#[tactic(auto, unfolding(crate::specs::Fields::signed, crate::specs::Fields::is_minus))]
+pub fn signed(f: &[u8]) -> Option<i32>
+    ensures { result ≡ signed f.now }
 {
-    if f.len() == 0 {
-        return false;
+    if let [b'-', digits @ ..] = f {
+        let n = number(digits, 0x8000_0000)?;
+        return Some(-(n as i64) as i32);
     }
-    f[0] == b'-'
+    let n = number(f, 0x7fff_ffff)?;
+    Some(n as i32)
 }
 
-fn minus(n: u64) -> i32
-    requires { n ≤ 0x8000_0000 }
-    ensures { result ≡ specs.minus n }
+// A word in hexadecimal digits.
+pub(crate) fn hex(f: &[u8]) -> Option<u32>
+    ensures { result ≡ hex f.now }
 {
-    if n == 0 {
-        return 0;
-    }
-    -1 - ((n - 1) as i32)
+    let n = numeral(f, 16, 0xffff_ffff)?;
+    Some(n as u32)
 }
 
-// Whether field `k` is a whole number of 32 bits with its sign.
-pub fn is_signed(line: &[u8], k: usize) -> bool
-    ensures { result ≡ is_signed (field_at line.now k) }
+// Eight hexadecimal digits, the bits of a single.
+#[tactic(auto, unfolding(crate::specs::Fields::single))]
+pub fn single(f: &[u8]) -> Option<f32>
+    ensures { result ≡ single f.now }
 {
-    let f = field(line, k);
-    if is_minus(f) {
-        let n = read_numeral(&f[1..], 10, 0x8000_0000);
-        return n.read;
-    }
-    let n = read_numeral(f, 10, 0x7fff_ffff);
-    n.read
-}
-
-// That number; 0 where it is none.
-pub fn signed(line: &[u8], k: usize) -> i32
-    ensures { result ≡ specs.signed (field_at line.now k) }
-{
-    let f = field(line, k);
-    if is_minus(f) {
-        let n = read_numeral(&f[1..], 10, 0x8000_0000);
-        return minus(n.value);
-    }
-    let n = read_numeral(f, 10, 0x7fff_ffff);
-    n.value as i32
-}
-
-// Whether field `k` is eight hexadecimal digits.
-pub fn is_single(line: &[u8], k: usize) -> bool
-    ensures { result ≡ is_single (field_at line.now k) }
-{
-    let f = field(line, k);
     if f.len() != 8 {
-        return false;
+        return None;
     }
-    let n = read_numeral(f, 16, 0xffff_ffff);
-    n.read
-}
-
-// The single of those bits; 0 where it is none.
-pub fn single(line: &[u8], k: usize) -> f32
-    ensures { result ≡ specs.single (field_at line.now k) }
-{
-    let f = field(line, k);
-    let n = read_numeral(f, 16, 0xffff_ffff);
-    float_of(n.value as u32)
+    hex(f).map(float_of)
 }
 
 fn no_small(f: &[u8]) -> bool
     ensures { result ≡ no_small f.now }
 {
-    let mut i: usize = 0;
-    while i < f.len() {
-        if 97 <= f[i] {
-            return false;
-        }
-        i += 1;
-    }
-    true
+    f.iter().all(|c| *c < 97)
 }
 
-// Whether field `k` is eight hexadecimal digits in capitals.
-pub fn is_capital_single(line: &[u8], k: usize) -> bool
-    ensures { result ≡ is_capital_single (field_at line.now k) }
+// The same in capitals.
+#[tactic(auto, unfolding(crate::specs::Fields::capital_single))]
+pub fn capital_single(f: &[u8]) -> Option<f32>
+    ensures { result ≡ capital_single f.now }
 {
-    let f = field(line, k);
     if !no_small(f) {
-        return false;
+        return None;
     }
-    is_single(line, k)
+    single(f)
 }
 
 // The word of a signed number, in two's complement.
+#[tactic(auto, unfolding(crate::specs::Fields::word_of))]
 pub fn word_of(n: i32) -> u32
-    ensures { result ≡ word_of n }
+    ensures { result ≡ specs.word_of n }
 {
-    if n < 0 {
-        return 0xffff_ffff - ((-1 - n) as u32);
-    }
-    n as u32
+    n.cast_unsigned()
 }

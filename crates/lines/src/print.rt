@@ -1,9 +1,11 @@
 // Numbers as text, written into a text that the caller lends. Each writer answers the place after what it wrote; where there
-// is not room for all of it, it writes nothing and answers the place that it was given.
+// is not room for all of it, it writes nothing and answers the place that it was given. What `Display` writes comes through a
+// `fmt::Write`, which tells neither the place nor that all of it is there: a writer that does is no plainer than these digits.
 ghost use Rattle.std.specs.Prelude.{◌≡◌, ◌+◌, ◌≤◌, ◌<◌, length, ◌∷◌};
 ghost use Rattle.std.proofs.lemmas.List.Edits.{sets};
 ghost use Rattle.lines.specs.Print.{glyph_of, last_digits, places_in, digits_of, signed_digits, put};
 
+#[tactic(auto, unfolding(crate::specs::Print::glyph_of))]
 fn glyph(d: u64) -> u8
     requires { d < 16 }
     ensures { result ≡ glyph_of d }
@@ -18,16 +20,14 @@ fn glyph(d: u64) -> u8
 fn places(n: u64) -> usize
     ensures { (result ≡ places_in 19 n) × (result ≤ 20) }
 {
-    let mut k: usize = 1;
     let mut rest = n;
-    while k < 20 {
+    for k in 1..20 {
         if rest < 10 {
             return k;
         }
-        rest = rest / 10;
-        k += 1;
+        rest /= 10;
     }
-    k
+    20
 }
 
 // The last `k` digits of `n`, from the last to the first.
@@ -35,24 +35,20 @@ fn fill(out: &mut [u8], at: usize, n: u64, base: u64, k: usize)
     requires { (0 < base) × (base ≤ 16) × (at + k ≤ length out.old) }
     ensures { out.new ≡ sets out.old at (last_digits base k n) }
 {
-    let mut i = k;
     let mut rest = n;
-    while 0 < i {
-        i -= 1;
-        out[at + i] = glyph(rest % base);
-        rest = rest / base;
+    for i in 0..k {
+        out[at + (k - i - 1)] = glyph(rest % base);
+        rest /= base;
     }
 }
 
 fn put_digits(out: &mut [u8], at: usize, n: u64, base: u64, k: usize) -> usize
     requires { (0 < base) × (base ≤ 16) }
-    ensures { record { at = result; text = out.new } ≡ put out.old at (last_digits base k n) }
+    ensures text { record { at = result; text = out.new } ≡ put out.old at (last_digits base k n) }
+    ensures within { at ≤ length out.old → result ≤ length out.old }
 {
     let len = out.len();
-    if len < at {
-        return at;
-    }
-    if len - at < k {
+    if len < at || len - at < k {
         return at;
     }
     fill(out, at, n, base, k);
@@ -60,30 +56,30 @@ fn put_digits(out: &mut [u8], at: usize, n: u64, base: u64, k: usize) -> usize
 }
 
 // The decimal digits of `n`.
+#[tactic(auto, unfolding(crate::specs::Print::digits_of))]
 pub fn put_number(out: &mut [u8], at: usize, n: u64) -> usize
-    ensures { record { at = result; text = out.new } ≡ put out.old at (digits_of n) }
+    ensures text { record { at = result; text = out.new } ≡ put out.old at (digits_of n) }
+    ensures within { at ≤ length out.old → result ≤ length out.old }
 {
-    let k = places(n);
-    put_digits(out, at, n, 10, k)
+    put_digits(out, at, n, 10, places(n))
 }
 
 // Eight hexadecimal digits in capitals.
 pub fn put_hex(out: &mut [u8], at: usize, w: u32) -> usize
-    ensures { record { at = result; text = out.new } ≡ put out.old at (last_digits 16 8 w) }
+    ensures text { record { at = result; text = out.new } ≡ put out.old at (last_digits 16 8 w) }
+    ensures within { at ≤ length out.old → result ≤ length out.old }
 {
     put_digits(out, at, w as u64, 16, 8)
 }
 
-// `-` and the decimal digits of `n`.
+// `-` and the decimal digits of `n`. With the sign as a slice in front, `put_digits` would copy one for every number.
 fn put_below(out: &mut [u8], at: usize, n: u64) -> usize
-    ensures { record { at = result; text = out.new } ≡ put out.old at (45 ∷ digits_of n) }
+    ensures text { record { at = result; text = out.new } ≡ put out.old at (45 ∷ digits_of n) }
+    ensures within { at ≤ length out.old → result ≤ length out.old }
 {
     let len = out.len();
     let k = places(n);
-    if len < at {
-        return at;
-    }
-    if len - at < k + 1 {
+    if len < at || len - at < k + 1 {
         return at;
     }
     out[at] = b'-';
@@ -93,11 +89,12 @@ fn put_below(out: &mut [u8], at: usize, n: u64) -> usize
 
 // The decimal digits of `n` with its sign.
 pub fn put_signed(out: &mut [u8], at: usize, n: i32) -> usize
-    ensures { record { at = result; text = out.new } ≡ put out.old at (signed_digits n) }
+    ensures text { record { at = result; text = out.new } ≡ put out.old at (signed_digits n) }
+    ensures within { at ≤ length out.old → result ≤ length out.old }
 {
+    let size = n.unsigned_abs() as u64;
     if n < 0 {
-        let m = (-1 - n) as u64;
-        return put_below(out, at, m + 1);
+        return put_below(out, at, size);
     }
-    put_number(out, at, n as u64)
+    put_number(out, at, size)
 }

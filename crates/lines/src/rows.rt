@@ -1,231 +1,200 @@
-// The fields of the block lister's lines, a row for each (specs/Rows): what it is read as, and which words of a region it gives.
-ghost use Rattle.std.specs.Prelude.{◌≡◌, ◌+◌, ◌≤◌, ◌<◌, get_or, set, take, drop};
+// The fields of the block lister's lines that give words of a region, a row for each (specs/Rows): what it is read as, and which words
+// it gives.
+ghost use Rattle.std.specs.Prelude.{◌≡◌, ◌+◌, ◌≤◌, ◌<◌, length, set, Option, Bool};
 ghost use Rattle.lines.specs.Fields.{field_at};
-ghost use Rattle.lines.specs.Rows.{rows, no_row, form_fits, form_word, is_tied, row_fits, fields_fit, line_fits, flagged, put_row, put_fields};
+ghost use Rattle.lines.specs.Rows.{form_fits, form_word, is_tied, row_fits, fields_fit, line_fits, flagged, put_row, put_fields, rows_of, part_words};
 
-use super::desk::{is_maybe, is_none, sample_of};
-use super::field::{
-    has_fields, is_capital_single, is_number, is_signed, signed, single, word, word_of,
-};
+use super::desk::maybe;
+use super::field::{capital_single, field, has_fields, hex, is_none, signed, word, word_of};
 use exact::order::bits_f32;
+use program::region::{SILENCE, float_of};
 
-// The columns of the rows of W, S, C, V, I, B, names, R, F and Q, one after the other.
-const FORMS: [u8; 77] = [
-    0, 2, 2, 0, 0, 0, 1, 0, 2, 2, 0, 0, 2, 1, 1, 0, 1, 4, 0, 0, 0, 0, 0, 2, 2, 3, 0, 0, 0, 0, 0, 0,
-    2, 2, 2, 2, 2, 2, 2, 2, 2, 2, 2, 2, 0, 0, 2, 2, 3, 3, 0, 2, 0, 2, 2, 0, 0, 2, 2, 2, 2, 2, 2, 0,
-    0, 2, 2, 2, 0, 2, 2, 0, 2, 2, 2, 2, 2,
-];
+// How a field is read: a number of at most so much, a single, a number with its sign, a sample's number or `-`.
+#[derive(Clone, Copy)]
+pub enum Form {
+    Number(u32),
+    Single,
+    Signed,
+    Sample,
+}
 
-const MOST: [u32; 77] = [
-    8193,
-    0,
-    0,
-    2,
-    0xffff_ffff,
-    2,
-    0,
-    255,
-    0,
-    0,
-    6,
-    127,
-    0,
-    0,
-    0,
-    0xffff_ffff,
-    0,
-    0,
-    255,
-    255,
-    255,
-    255,
-    255,
-    0,
-    0,
-    0,
-    0xffff_ffff,
-    0xffff_ffff,
-    3,
-    3,
-    0xffff_ffff,
-    0xffff_ffff,
-    0,
-    0,
-    0,
-    0,
-    0,
-    0,
-    0,
-    0,
-    0,
-    0,
-    0,
-    0,
-    0xffff_ffff,
-    0xffff_ffff,
-    0,
-    0,
-    0,
-    0,
-    2,
-    0,
-    4,
-    0,
-    0,
-    0xffff_ffff,
-    0xffff_ffff,
-    0,
-    0,
-    0,
-    0,
-    0,
-    0,
-    1,
-    12,
-    0,
-    0,
-    0,
-    255,
-    0,
-    0,
-    2,
-    0,
-    0,
-    0,
-    0,
-    0,
-];
-
-const LEADS: [usize; 77] = [
-    0, 0, 0, 0, 0, 0, 0, 0, 0, 0, 0, 2, 2, 0, 0, 0, 0, 0, 0, 0, 0, 0, 0, 0, 0, 0, 0, 11, 0, 0, 14,
-    14, 0, 0, 0, 0, 0, 0, 0, 0, 0, 0, 0, 0, 28, 28, 30, 30, 0, 33, 0, 0, 0, 0, 0, 39, 40, 0, 0, 43,
-    43, 43, 43, 43, 0, 0, 0, 0, 0, 0, 0, 0, 0, 0, 0, 0, 0,
-];
-
-const FLAGS: [usize; 77] = [
-    0, 0, 0, 0, 0, 0, 0, 0, 0, 0, 0, 0, 0, 0, 0, 0, 0, 0, 0, 0, 0, 0, 0, 0, 0, 0, 0, 8, 0, 0, 12,
-    0, 0, 0, 0, 0, 0, 0, 0, 0, 0, 0, 0, 0, 15, 0, 30, 0, 0, 19, 0, 0, 0, 0, 0, 23, 25, 0, 0, 33, 0,
-    0, 0, 0, 0, 0, 0, 0, 0, 0, 0, 0, 0, 0, 0, 0, 0,
-];
-
-const WORDS: [usize; 77] = [
-    0, 0, 0, 0, 0, 0, 0, 0, 0, 0, 0, 0, 0, 0, 0, 0, 0, 0, 1, 2, 3, 4, 5, 39, 40, 6, 7, 9, 10, 11,
-    13, 14, 52, 53, 54, 55, 56, 43, 44, 45, 46, 50, 47, 51, 16, 17, 31, 32, 18, 20, 21, 48, 22, 57,
-    49, 24, 26, 41, 42, 34, 35, 36, 37, 38, 0, 2, 3, 4, 1, 5, 6, 0, 1, 2, 3, 4, 5,
-];
-
-// How a field is read: 0 a number of at most `max`, 1 one of 64 bits, 2 a single, 3 a number with its sign, 4 a sample's number.
-// It is `-` where the field `lead` is (0: never). The word `flag` says whether it is there (0: none does), the word `word` holds it.
-#[derive(Drop)]
+// The field is `-` where the field `lead` is, if it has one. The word `flag` says whether it is there, the word `word` holds it.
+#[derive(Clone, Copy)]
 pub struct Row {
-    pub form: u8,
-    pub max: u32,
-    pub lead: usize,
-    pub flag: usize,
+    pub form: Form,
+    pub lead: Option<usize>,
+    pub flag: Option<usize>,
     pub word: usize,
 }
 
-fn row_at(i: usize) -> Row
-    requires { i < 77 }
-    ensures { result ≡ get_or rows i no_row }
+macro_rules! rows {
+    ($($form:expr, $lead:expr, $flag:expr, $word:expr;)*) => {
+        [$(Row { form: $form, lead: $lead, flag: $flag, word: $word }),*]
+    };
+}
+
+// The fields of an R line.
+const REGION: [Row; 47] = rows! {
+    Form::Sample, None, None, 0;
+    Form::Number(255), None, None, 1;
+    Form::Number(255), None, None, 2;
+    Form::Number(255), None, None, 3;
+    Form::Number(255), None, None, 4;
+    Form::Number(255), None, None, 5;
+    Form::Single, None, None, 39;
+    Form::Single, None, None, 40;
+    Form::Signed, None, None, 6;
+    Form::Number(u32::MAX), None, None, 7;
+    Form::Number(u32::MAX), Some(11), Some(8), 9;
+    Form::Number(3), None, None, 10;
+    Form::Number(3), None, None, 11;
+    Form::Number(u32::MAX), Some(14), Some(12), 13;
+    Form::Number(u32::MAX), Some(14), None, 14;
+    Form::Single, None, None, 52;
+    Form::Single, None, None, 53;
+    Form::Single, None, None, 54;
+    Form::Single, None, None, 55;
+    Form::Single, None, None, 56;
+    Form::Single, None, None, 43;
+    Form::Single, None, None, 44;
+    Form::Single, None, None, 45;
+    Form::Single, None, None, 46;
+    Form::Single, None, None, 50;
+    Form::Single, None, None, 47;
+    Form::Single, None, None, 51;
+    Form::Number(u32::MAX), Some(28), Some(15), 16;
+    Form::Number(u32::MAX), Some(28), None, 17;
+    Form::Single, Some(30), Some(30), 31;
+    Form::Single, Some(30), None, 32;
+    Form::Signed, None, None, 18;
+    Form::Signed, Some(33), Some(19), 20;
+    Form::Number(2), None, None, 21;
+    Form::Single, None, None, 48;
+    Form::Number(4), None, None, 22;
+    Form::Single, None, None, 57;
+    Form::Single, None, None, 49;
+    Form::Number(u32::MAX), Some(39), Some(23), 24;
+    Form::Number(u32::MAX), Some(40), Some(25), 26;
+    Form::Single, None, None, 41;
+    Form::Single, None, None, 42;
+    Form::Single, Some(43), Some(33), 34;
+    Form::Single, Some(43), None, 35;
+    Form::Single, Some(43), None, 36;
+    Form::Single, Some(43), None, 37;
+    Form::Number(1), Some(43), None, 38;
+};
+
+// The fields of an F line, at the seven words of a filter.
+const FILTER: [Row; 7] = rows! {
+    Form::Number(12), None, None, 0;
+    Form::Single, None, None, 2;
+    Form::Single, None, None, 3;
+    Form::Single, None, None, 4;
+    Form::Number(255), None, None, 1;
+    Form::Single, None, None, 5;
+    Form::Single, None, None, 6;
+};
+
+// The fields of a Q line, at the six words of a band.
+const BAND: [Row; 6] = rows! {
+    Form::Number(2), None, None, 0;
+    Form::Single, None, None, 1;
+    Form::Single, None, None, 2;
+    Form::Single, None, None, 3;
+    Form::Single, None, None, 4;
+    Form::Single, None, None, 5;
+};
+
+// What R, F and Q lines give the words of.
+#[derive(Clone, Copy)]
+pub enum Part {
+    Region,
+    Filter,
+    Band,
+}
+
+#[tactic(auto, unfolding(crate::specs::Rows::rows_of))]
+fn rows_of(part: Part) -> &'static [Row]
+    ensures rows { result.now ≡ rows_of part }
+    ensures few { length result.now < 100 }
 {
-    Row {
-        form: FORMS[i],
-        max: MOST[i],
-        lead: LEADS[i],
-        flag: FLAGS[i],
-        word: WORDS[i],
+    match part {
+        Part::Region => &REGION,
+        Part::Filter => &FILTER,
+        Part::Band => &BAND,
     }
 }
 
 // ---- reading
 
-fn form_fits(line: &[u8], k: usize, form: u8, max: u32) -> bool
-    ensures { result ≡ form_fits form max (field_at line.now k) }
+fn form_fits(f: &[u8], form: Form) -> bool
+    ensures { result ≡ form_fits form f.now }
 {
-    if form == 0 {
-        return is_number(line, k, max as u64);
+    match form {
+        Form::Number(max) => word(f, max).is_some(),
+        Form::Single => capital_single(f).is_some(),
+        Form::Signed => signed(f).is_some(),
+        Form::Sample => maybe(f).is_some(),
     }
-    if form == 1 {
-        return is_number(line, k, 0xffff_ffff_ffff_ffff);
-    }
-    if form == 2 {
-        return is_capital_single(line, k);
-    }
-    if form == 3 {
-        return is_signed(line, k);
-    }
-    is_maybe(line, k)
 }
 
 // Whether the field that decides over this one is `-`.
-fn is_tied(line: &[u8], lead: usize) -> bool
+fn is_tied(line: &[u8], lead: Option<usize>) -> bool
     ensures { result ≡ is_tied line.now lead }
 {
-    if lead == 0 {
-        return false;
+    match lead {
+        None => false,
+        Some(k) => is_none(field(line, k)),
     }
-    is_none(line, lead)
 }
 
-fn row_fits(line: &[u8], k: usize, r: Row) -> bool
-    ensures { result ≡ row_fits line.now r (field_at line.now k) }
+#[tactic(auto, unfolding(crate::specs::Rows::row_fits))]
+fn row_fits(line: &[u8], f: &[u8], r: Row) -> bool
+    ensures { result ≡ row_fits line.now r f.now }
 {
     if is_tied(line, r.lead) {
-        return is_none(line, k);
+        return is_none(f);
     }
-    form_fits(line, k, r.form, r.max)
+    form_fits(f, r.form)
 }
 
-// Whether n fields fit the rows from `from` on.
-fn fields_fit(line: &[u8], from: usize, n: usize) -> bool
-    requires { from + n ≤ 77 }
-    ensures { result ≡ fields_fit line.now 1 (take n (drop from rows)) }
+// Whether the fields fit their rows.
+fn fields_fit(line: &[u8], rows: &[Row]) -> bool
+    ensures { result ≡ fields_fit line.now 1 rows.now }
 {
-    let mut i: usize = 0;
-    while i < n {
-        let r = row_at(from + i);
-        if !row_fits(line, i + 1, r) {
+    for (i, r) in rows.iter().enumerate() {
+        if !row_fits(line, field(line, i + 1), *r) {
             return false;
         }
-        i += 1;
     }
     true
 }
 
-// Whether the line has these fields and no other.
-pub(crate) fn line_fits(line: &[u8], from: usize, n: usize) -> bool
-    requires { from + n ≤ 77 }
-    ensures { result ≡ line_fits line.now n (take n (drop from rows)) }
+// Whether the line has the fields of the part and no other.
+#[tactic(auto, unfolding(crate::specs::Rows::line_fits))]
+pub(crate) fn gives(line: &[u8], part: Part) -> bool
+    ensures { result ≡ line_fits line.now (rows_of part) }
 {
-    if !has_fields(line, n + 1) {
-        return false;
-    }
-    fields_fit(line, from, n)
+    let rows = rows_of(part);
+    has_fields(line, rows.len() + 1) && fields_fit(line, rows)
 }
 
 // ---- the words of a region
 
-fn form_word(line: &[u8], k: usize, form: u8, max: u32) -> u32
-    ensures { result ≡ form_word form max (field_at line.now k) }
+// What a field means beside `form_fits`: a single's word is that of its digits, whether they are eight capitals or not.
+fn form_word(f: &[u8], form: Form) -> u32
+    ensures { result ≡ form_word form f.now }
 {
-    if form == 0 {
-        return word(line, k, max);
+    match form {
+        Form::Number(max) => word(f, max).unwrap_or(0),
+        Form::Single => bits_f32(float_of(hex(f).unwrap_or(0))),
+        Form::Signed => word_of(signed(f).unwrap_or(0)),
+        Form::Sample => maybe(f).unwrap_or(Some(0)).unwrap_or(SILENCE),
     }
-    if form == 1 {
-        return 0;
-    }
-    if form == 2 {
-        return bits_f32(single(line, k));
-    }
-    if form == 3 {
-        let n = signed(line, k);
-        return word_of(n);
-    }
-    sample_of(line, k)
 }
 
-fn store(w: &mut [u32], at: usize, v: u32)
+// Writes where there is such a place.
+pub fn store<T: Copy>(w: &mut [T], at: usize, v: T)
     ensures { w.new ≡ set w.old at v }
 {
     if at < w.len() {
@@ -234,36 +203,33 @@ fn store(w: &mut [u32], at: usize, v: u32)
 }
 
 // Whether the field is there, where a word says so.
-fn put_flag(line: &[u8], k: usize, flag: usize, w: &mut [u32])
-    ensures { w.new ≡ flagged flag (field_at line.now k) w.old }
+fn put_flag(f: &[u8], flag: Option<usize>, w: &mut [u32])
+    ensures { w.new ≡ flagged flag f.now w.old }
 {
-    if flag == 0 {
-        return;
+    if let Some(at) = flag {
+        store(w, at, !is_none(f) as u32);
     }
-    if is_none(line, k) {
-        store(w, flag, 0);
-        return;
-    }
-    store(w, flag, 1);
 }
 
-fn put_row(line: &[u8], k: usize, r: Row, w: &mut [u32])
-    ensures { w.new ≡ put_row r (field_at line.now k) w.old }
+#[tactic(auto, unfolding(crate::specs::Rows::put_row))]
+fn put_row(f: &[u8], r: Row, w: &mut [u32])
+    ensures { w.new ≡ put_row r f.now w.old }
 {
-    put_flag(line, k, r.flag, w);
-    let v = form_word(line, k, r.form, r.max);
-    store(w, r.word, v);
+    put_flag(f, r.flag, w);
+    store(w, r.word, form_word(f, r.form));
 }
 
-// The words of n fields.
-pub(crate) fn put_fields(line: &[u8], from: usize, n: usize, w: &mut [u32])
-    requires { from + n ≤ 77 }
-    ensures { w.new ≡ put_fields line.now 1 (take n (drop from rows)) w.old }
+fn put_fields(line: &[u8], rows: &[Row], w: &mut [u32])
+    ensures { w.new ≡ put_fields line.now 1 rows.now w.old }
 {
-    let mut i: usize = 0;
-    while i < n {
-        let r = row_at(from + i);
-        put_row(line, i + 1, r, w);
-        i += 1;
+    for (i, r) in rows.iter().enumerate() {
+        put_row(field(line, i + 1), *r, w);
     }
+}
+
+// The words that the line gives of the part.
+pub fn put_part(line: &[u8], part: Part, w: &mut [u32])
+    ensures { w.new ≡ part_words part line.now w.old }
+{
+    put_fields(line, rows_of(part), w);
 }

@@ -1,87 +1,63 @@
 // What both listers print: a K line for each record, and an E line.
-use super::text::{make_room, put_byte, put_flag, put_none, put_number, put_signed};
-use session::{OffAt, OffBy, PlayerRecord, Session};
-
-fn put_off_by(out: &mut [u8], at: usize, o: OffBy) -> usize {
-    match o {
-        OffBy::Nobody => put_none(out, at),
-        OffBy::Group(g) => put_signed(out, at, g),
-    }
-}
-
-fn put_off_at(out: &mut [u8], at: usize, o: OffAt) -> usize {
-    match o {
-        OffAt::Never => put_none(out, at),
-        OffAt::At(t) => put_number(out, at, t),
-    }
-}
+use super::text::Text;
+use session::{PlayerRecord, Session};
 
 // step, voice, slot
-fn put_head(out: &mut [u8], at: usize, r: PlayerRecord, step: u64) -> usize {
-    let mut k = put_byte(out, at, b'K');
-    k = put_number(out, k, step);
-    k = put_number(out, k, r.voice);
-    put_number(out, k, r.slot as u64)
+fn put_head(text: &mut Text, r: PlayerRecord, step: u64) {
+    text.begin(b'K');
+    text.number(step);
+    text.number(r.voice);
+    text.number(r.slot as u64);
 }
 
 // region, group, off_by
-fn put_who(out: &mut [u8], at: usize, r: PlayerRecord) -> usize {
-    let mut k = put_number(out, at, r.region as u64);
-    k = put_signed(out, k, r.group);
-    let off_by = r.off_by;
-    put_off_by(out, k, off_by)
+fn put_who(text: &mut Text, r: PlayerRecord) {
+    text.number(r.region as u64);
+    text.signed(r.group);
+    match r.off_by {
+        None => text.none(),
+        Some(group) => text.signed(group),
+    }
 }
 
 // note, vel, on_note, start, offed, off_at
-fn put_what(out: &mut [u8], at: usize, r: PlayerRecord) -> usize {
-    let mut k = put_number(out, at, r.note as u64);
-    k = put_number(out, k, r.vel as u64);
-    k = put_flag(out, k, r.on_note);
-    k = put_number(out, k, r.start);
-    k = put_flag(out, k, r.offed);
-    let off_at = r.off_at;
-    k = put_off_at(out, k, off_at);
-    put_byte(out, k, b'\n')
-}
-
-fn put_record(out: &mut [u8], at: usize, r: PlayerRecord, step: u64) -> usize {
-    let a = make_room(out, at);
-    let h = put_head(out, a, r, step);
-    let k = put_who(out, h, r);
-    put_what(out, k, r)
+fn put_what(text: &mut Text, r: PlayerRecord) {
+    text.number(r.note as u64);
+    text.number(r.vel as u64);
+    text.flag(r.on_note);
+    text.number(r.start);
+    text.flag(r.offed);
+    match r.off_at {
+        None => text.none(),
+        Some(at) => text.number(at),
+    }
+    text.end();
 }
 
 // A K line for each record.
-pub fn put_records(out: &mut [u8], at: usize, s: Session, step: u64) -> usize {
-    let n = s.count;
-    let mut k = at;
-    let mut i: usize = 0;
-    while i < 512 {
-        if n <= i {
-            return k;
-        }
-        let r = s.players[i];
-        k = put_record(out, k, r, step);
-        i += 1;
+pub fn put_records(text: &mut Text, s: Session, step: u64) {
+    let n = s.count.min(512);
+    for r in &s.players[..n] {
+        put_head(text, *r, step);
+        put_who(text, *r);
+        put_what(text, *r);
     }
-    k
 }
 
-// The refusal of a line.
-pub fn put_refusal(out: &mut [u8], at: usize, line: u64, number: u64) -> usize {
-    let a = make_room(out, at);
-    let mut k = put_byte(out, a, b'E');
-    k = put_number(out, k, line);
-    k = put_number(out, k, number);
-    put_byte(out, k, b'\n')
+// The refusal of a line, with the region or sample that it names.
+pub fn put_refusal(text: &mut Text, line: u64, number: u64, which: Option<u64>) {
+    text.begin(b'E');
+    text.number(line);
+    text.number(number);
+    if let Some(i) = which {
+        text.number(i);
+    }
+    text.end();
 }
 
-// The same, with the region or sample that it names.
-pub fn put_refusal_of(out: &mut [u8], at: usize, line: u64, number: u64, which: u64) -> usize {
-    let a = make_room(out, at);
-    let mut k = put_byte(out, a, b'E');
-    k = put_number(out, k, line);
-    k = put_number(out, k, number);
-    k = put_number(out, k, which);
-    put_byte(out, k, b'\n')
+// The refusal of a line before there is a voice: it is all that a script writes.
+pub fn refuse(line: u64, number: u64, which: Option<u64>) {
+    let mut text = Text::new();
+    put_refusal(&mut text, line, number, which);
+    text.flush();
 }

@@ -1,5 +1,7 @@
-// The text that is written, collected in a buffer: each function puts something at `at` and answers the place after it.
-use lines::field::word_of;
+// The text that is written, collected in a buffer.
+ghost use Rattle.std.specs.Prelude.{◌≤◌};
+
+use lines::print::{put_hex, put_number, put_signed};
 
 // Standard output.
 const STDOUT_FILENO: i32 = 1;
@@ -7,76 +9,78 @@ const STDOUT_FILENO: i32 = 1;
 // Room for any line that is printed.
 const LINE: usize = 2048;
 
-// Writes the text.
-pub fn flush(out: &[u8], at: usize) {
-    if at <= out.len() {
-        io::write_all(STDOUT_FILENO, &out[0..at]);
+// The bytes up to `at` are still to be written.
+#[derive(Drop)]
+pub struct Text {
+    buf: [u8; 65536],
+    at: usize,
+    ghost within: { at ≤ 65536 },
+}
+
+// Writes the line that parts what two scripts print.
+pub fn part() {
+    io::write_all(STDOUT_FILENO, b"=\n");
+}
+
+impl Text {
+    pub fn new() -> Text {
+        Text {
+            buf: io::large_buffer(),
+            at: 0,
+        }
     }
-}
 
-// Writes the text where less than a line's room is left.
-pub fn make_room(out: &[u8], at: usize) -> usize {
-    if out.len() < LINE {
-        return at;
+    // Writes the text.
+    pub fn flush(&mut self) {
+        io::write_all(STDOUT_FILENO, &self.buf[..self.at]);
+        self.at = 0;
     }
-    if at < out.len() - LINE {
-        return at;
+
+    fn byte(&mut self, b: u8) {
+        if self.at < self.buf.len() {
+            self.buf[self.at] = b;
+            self.at += 1;
+        }
     }
-    flush(out, at);
-    0
-}
 
-pub fn put_byte(out: &mut [u8], at: usize, b: u8) -> usize {
-    if at < out.len() {
-        out[at] = b;
-        return at + 1;
+    // A line begins with its letter, in a buffer that has room for it.
+    pub fn begin(&mut self, letter: u8) {
+        if self.buf.len() - LINE <= self.at {
+            self.flush();
+        }
+        self.byte(letter);
     }
-    at
-}
 
-fn put_bytes(out: &mut [u8], at: usize, bytes: &[u8]) -> usize {
-    let mut k = at;
-    let mut i: usize = 0;
-    while i < bytes.len() {
-        k = put_byte(out, k, bytes[i]);
-        i += 1;
+    // A comma and the number.
+    pub fn number(&mut self, n: u64) {
+        self.byte(b',');
+        self.at = put_number(&mut self.buf, self.at, n);
     }
-    k
-}
 
-pub fn put_decimal(out: &mut [u8], at: usize, n: u64) -> usize {
-    let mut digits = [0u8; 20];
-    let k = io::decimal(n, &mut digits);
-    put_bytes(out, at, &digits[..k])
-}
-
-// A comma and the number.
-pub fn put_number(out: &mut [u8], at: usize, n: u64) -> usize {
-    let k = put_byte(out, at, b',');
-    put_decimal(out, k, n)
-}
-
-// A comma and the number, which may be below 0.
-pub fn put_signed(out: &mut [u8], at: usize, n: i32) -> usize {
-    let k = put_byte(out, at, b',');
-    let w = word_of(n) as u64;
-    if w < 0x8000_0000 {
-        return put_decimal(out, k, w);
+    // A comma and the number, which may be below 0.
+    pub fn signed(&mut self, n: i32) {
+        self.byte(b',');
+        self.at = put_signed(&mut self.buf, self.at, n);
     }
-    let m = put_byte(out, k, b'-');
-    put_decimal(out, m, 0x1_0000_0000 - w)
-}
 
-pub fn put_flag(out: &mut [u8], at: usize, b: bool) -> usize {
-    if b {
-        put_number(out, at, 1)
-    } else {
-        put_number(out, at, 0)
+    // A comma and the word in hexadecimal digits.
+    pub fn hex(&mut self, w: u32) {
+        self.byte(b',');
+        self.at = put_hex(&mut self.buf, self.at, w);
     }
-}
 
-// A comma and `-`, for none.
-pub fn put_none(out: &mut [u8], at: usize) -> usize {
-    let k = put_byte(out, at, b',');
-    put_byte(out, k, b'-')
+    // A comma and 0 or 1.
+    pub fn flag(&mut self, b: bool) {
+        self.number(b as u64);
+    }
+
+    // A comma and `-`.
+    pub fn none(&mut self) {
+        self.byte(b',');
+        self.byte(b'-');
+    }
+
+    pub fn end(&mut self) {
+        self.byte(b'\n');
+    }
 }

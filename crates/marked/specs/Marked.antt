@@ -1,12 +1,11 @@
 -- 01's table "Marked for proof": each row is a value of the port's definitions and what 01 says that it is. Definitions only.
-use Rattle.std.specs.Prelude.{◌≡◌, true, false, List, [], ◌∷◌, pos, Float}
+use Rattle.std.specs.Prelude.{◌≡◌, true, false, List, [], ◌∷◌, pos, Float, None}
 use Rattle.std.specs.Float.{binary32}
 use Rattle.std.specs.Float.Ieee.{neg, of_bits}
 use Rattle.envelope.specs.Envelope.{started, env_next, is_done}
 use Rattle.envelope.specs.declared.EnvStep.{EnvStep}
 use Rattle.exact.specs.Single.{f0, f0_5, f1, f2, f100}
 use Rattle.gain.specs.Gain.{velocity_gain}
-use Rattle.gain.specs.declared.Curve.TheVariants.{NoCurve}
 use Rattle.interp.specs.Points.{weight3}
 use Rattle.interp.specs.Position.{double}
 use Rattle.interp.specs.Span.{span_for}
@@ -45,10 +44,10 @@ table rate =
     ∷ (first_step rate f0).value is f0
     ∷ is_done (first_step rate f0).env.state is true
     -- velocity gain 1 at 127 and 0 at 0 (track 100), 0 at 127 and 1 at 0 (track -100)
-    ∷ velocity_gain f100 NoCurve 127 is f1
-    ∷ velocity_gain f100 NoCurve 0 is f0
-    ∷ velocity_gain (neg f100) NoCurve 127 is f0
-    ∷ velocity_gain (neg f100) NoCurve 0 is f1
+    ∷ velocity_gain f100 None 127 is f1
+    ∷ velocity_gain f100 None 0 is f0
+    ∷ velocity_gain (neg f100) None 127 is f0
+    ∷ velocity_gain (neg f100) None 0 is f1
     -- kernel `hermite3` 1 at 0, 0 at 1 and at 2
     ∷ weight3 f0 is f1
     ∷ weight3 f1 is f0

@@ -8,7 +8,7 @@ ghost use Rattle.marked.specs.Marked.{first_step};
 use envelope::{Env, EnvStep};
 use exact::cast::f64_to_usize;
 use exact::order::bits_f32;
-use gain::{Curve, velocity_gain};
+use gain::velocity_gain;
 use interp::points::hermite3;
 use interp::sinc::SincSpan;
 use player::start::loop_at;
@@ -74,7 +74,7 @@ fn gain(track: f32, vel: u8) {
     io::write_all(1, b", track ");
     bits(track);
     io::write_all(1, b": ");
-    bits(velocity_gain(track, Curve::NoCurve, vel));
+    bits(velocity_gain(track, None, vel));
     end_line();
 }
 

@@ -1,5 +1,7 @@
 -- Choosing stands apart from starting: what a starting region does to the session changes no answer that a release asks for, so that
 -- its regions may be chosen before the first of them starts; and likewise at a note-on, which asks for sequences alone. Assumes nothing.
+use Rattle.std.specs.List.{list_any}
+use Rattle.std.specs.Prelude.{cond, filter, ◌||◌}
 use Prim.Native.Nat.{ℕ, ◌≤◌}
 use mathlib.Core.Path.{◌≡◌, refl, sym, ap, ◌∙◌}
 use mathlib.Core.Bool.{Bool, true, false, ◌&&◌}
@@ -12,7 +14,6 @@ use borrow.Author.Tests.{ltb-true}
 use Rattle.program.specs.Lookup.{regions_for_key}
 use Rattle.program.specs.Region.{region_at}
 use Rattle.session.specs.Changes.{unmarked}
-use Rattle.session.specs.Lists.{pick, keep, any}
 use Rattle.session.specs.Records.{in_window}
 use Rattle.session.specs.Rules.{start_marks, enter}
 use Rattle.session.specs.State.{view, relist}
@@ -31,43 +32,43 @@ use Rattle.note.specs.Choice.{Hit, Choosing, moved, starts_on, choose_one, choos
 
 module _ (w : Window) where
   -- marks and off times are not asked for
-  any-unmarked : (rs : List PlayerRecord) → any (in_window w) (map unmarked rs) ≡ any (in_window w) rs
+  any-unmarked : (rs : List PlayerRecord) → list_any (in_window w) (map unmarked rs) ≡ list_any (in_window w) rs
   unfolding in_window
   any-unmarked [] = refl
-  any-unmarked (r ∷ rs) = ap (λ t. pick (in_window w r) true t) (any-unmarked rs)
+  any-unmarked (r ∷ rs) = ap (λ t. in_window w r || t) (any-unmarked rs)
 
-  any_last : (r : PlayerRecord) → in_window w r ≡ false → (rs : List PlayerRecord) → any (in_window w) (rs ++ (r ∷ [])) ≡ any (in_window w) rs
-  any_last r e [] = ap (λ t. pick t true false) e
-  any_last r e (x ∷ rs) = ap (λ t. pick (in_window w x) true t) (any_last r e rs)
+  any_last : (r : PlayerRecord) → in_window w r ≡ false → (rs : List PlayerRecord) → list_any (in_window w) (rs ++ (r ∷ [])) ≡ list_any (in_window w) rs
+  any_last r e [] = ap (λ t. t || false) e
+  any_last r e (x ∷ rs) = ap (λ t. in_window w x || t) (any_last r e rs)
 
   not_on : (r : PlayerRecord) → r.on_note ≡ false → in_window w r ≡ false
   unfolding in_window
   not_on r e = rw e refl
 
-  any-entered : (r : PlayerRecord) → r.on_note ≡ false → (rs : List PlayerRecord) → any (in_window w) (enter r rs) ≡ any (in_window w) rs
+  any-entered : (r : PlayerRecord) → r.on_note ≡ false → (rs : List PlayerRecord) → list_any (in_window w) (enter r rs) ≡ list_any (in_window w) rs
   unfolding enter
   any-entered r e rs = by-case (ltb (length rs) 512) where
-    by-case : (t : Bool) → any (in_window w) (pick t (rs ++ (r ∷ [])) rs) ≡ any (in_window w) rs
+    by-case : (t : Bool) → list_any (in_window w) (cond t (rs ++ (r ∷ [])) rs) ≡ list_any (in_window w) rs
     by-case true = any_last r (not_on r e) rs
     by-case false = refl
 
   enter-few : (r : PlayerRecord) (rs : List PlayerRecord) → length rs ≤ 512 → length (enter r rs) ≤ 512
   unfolding enter
   enter-few r rs h = by-case (ltb (length rs) 512) refl where
-    by-case : (t : Bool) → ltb (length rs) 512 ≡ t → length (pick t (rs ++ (r ∷ [])) rs) ≤ 512
+    by-case : (t : Bool) → ltb (length rs) 512 ≡ t → length (cond t (rs ++ (r ∷ [])) rs) ≤ 512
     by-case true e = omega (arith, ltb-true (length rs) 512 e, length-append rs (r ∷ []))
     by-case false e = h
 
   module _ (s : Session) (size : length s.players ≡ 512) where
-    relisted : (ks : List PlayerRecord) → length ks ≤ 512 → any (in_window w) ks ≡ any (in_window w) (view s) → attack_playing w (relist ks s) ≡ attack_playing w s
+    relisted : (ks : List PlayerRecord) → length ks ≤ 512 → list_any (in_window w) ks ≡ list_any (in_window w) (view s) → attack_playing w (relist ks s) ≡ attack_playing w s
     unfolding attack_playing
-    relisted ks h e = ap (any (in_window w)) (view-relist s size ks h) ∙ e
+    relisted ks h e = ap (list_any (in_window w)) (view-relist s size ks h) ∙ e
 
     -- what a starting region marks
     pub marks-apart : (st : Start) → attack_playing w (relist (start_marks st (view s)) s) ≡ attack_playing w s
     marks-apart st =
         relisted (start_marks st (view s)) (omega (arith, along-length (marks-along st (view s)), view-few s))
-        (sym (any-unmarked (start_marks st (view s))) ∙ ap (any (in_window w)) (marks-same st (view s)) ∙ any-unmarked (view s))
+        (sym (any-unmarked (start_marks st (view s))) ∙ ap (list_any (in_window w)) (marks-same st (view s)) ∙ any-unmarked (view s))
 
     -- the record of a region that no note-on starts
     pub entry-apart : (r : PlayerRecord) → r.on_note ≡ false → attack_playing w (relist (enter r (view s)) s) ≡ attack_playing w s
@@ -107,15 +108,15 @@ module _ (ws : List ℕ) (vel : ℕ) (draw : Float) where
   module _ {S : Type 0} (session : S → Session) (Sound : S → Type 0) (start : S → ℕ → S) (sound : (s : S) (i : ℕ) → Sound s → Sound (start s i))
       (same : (s : S) (i : ℕ) → Sound s → AsksSame (session s) (session (start s i))) where
     abbrev pub test_and_start : S → ℕ → S
-    test_and_start s i = pick (starts_off ws vel draw (session s) i) (start s i) s
+    test_and_start s i = cond (starts_off ws vel draw (session s) i) (start s i) s
 
-    in-turn : (s : S) → Sound s → (is : List ℕ) → foldl test_and_start s is ≡ foldl start s (keep (starts_off ws vel draw (session s)) is)
+    in-turn : (s : S) → Sound s → (is : List ℕ) → foldl test_and_start s is ≡ foldl start s (filter (starts_off ws vel draw (session s)) is)
     in-turn s ok [] = refl
     in-turn s ok (i ∷ is) = by-case (starts_off ws vel draw (session s) i) (in-turn (start s i) (sound s i ok) is) (in-turn s ok is) where
-      by-case : (t : Bool) → foldl test_and_start (start s i) is ≡ foldl start (start s i) (keep (starts_off ws vel draw (session (start s i))) is)
-          → foldl test_and_start s is ≡ foldl start s (keep (starts_off ws vel draw (session s)) is)
-          → foldl test_and_start (pick t (start s i) s) is
-          ≡ foldl start s (pick t (i ∷ keep (starts_off ws vel draw (session s)) is) (keep (starts_off ws vel draw (session s)) is))
+      by-case : (t : Bool) → foldl test_and_start (start s i) is ≡ foldl start (start s i) (filter (starts_off ws vel draw (session (start s i))) is)
+          → foldl test_and_start s is ≡ foldl start s (filter (starts_off ws vel draw (session s)) is)
+          → foldl test_and_start (cond t (start s i) s) is
+          ≡ foldl start s (cond t (i ∷ filter (starts_off ws vel draw (session s)) is) (filter (starts_off ws vel draw (session s)) is))
       by-case true here past =
           here
           ∙ ap (foldl start (start s i))
@@ -135,7 +136,7 @@ module _ {S : Type 0} (seqs : S → Sequences) (put : Sequences → S → S) (st
     (got : (q : Sequences) (s : S) → seqs (put q s) ≡ q) (again : (q r : Sequences) (s : S) → put q (put r s) ≡ put q s) (back : (s : S) → put (seqs s) s ≡ s)
     (left : (s : S) (i : ℕ) → seqs (start s i) ≡ seqs s) (blind : (q : Sequences) (s : S) (i : ℕ) → put q (start s i) ≡ start (put q s) i) (h : Hit) where
   abbrev pub start_if : S → ℕ → S
-  start_if s i = pick (starts_on h (seqs s) i) (start s i) s
+  start_if s i = cond (starts_on h (seqs s) i) (start s i) s
 
   abbrev pub move_and_start : S → ℕ → S
   move_and_start s i = start_if (put (moved (region_at h.words i) i (seqs s)) s) i
@@ -160,9 +161,9 @@ module _ {S : Type 0} (seqs : S → Sequences) (put : Sequences → S → S) (st
       let stepped : put q (started s c) ≡ foldl start (put q s) c.regions = put_first q (put c.seq s) c.regions ∙ ap (λ x. foldl start x c.regions) (again q c.seq s) in
       ap (λ r. start_if (put (moved (region_at h.words i) i r) (started s c)) i) now
       ∙ ap (λ x. start_if x i) stepped
-      ∙ ap (λ r. pick (starts_on h r i) (start (foldl start (put q s) c.regions) i) (foldl start (put q s) c.regions)) (seqs-left (put q s) c.regions ∙ got q s)
+      ∙ ap (λ r. cond (starts_on h r i) (start (foldl start (put q s) c.regions) i) (foldl start (put q s) c.regions)) (seqs-left (put q s) c.regions ∙ got q s)
       ∙ by-case (put q s) (starts_on h q i) where
-        by-case : (x : S) (t : Bool) → pick t (start (foldl start x c.regions) i) (foldl start x c.regions) ≡ foldl start x (pick t (c.regions ++ (i ∷ [])) c.regions)
+        by-case : (x : S) (t : Bool) → cond t (start (foldl start x c.regions) i) (foldl start x c.regions) ≡ foldl start x (cond t (c.regions ++ (i ∷ [])) c.regions)
         by-case x true = sym (foldl-append start x c.regions (i ∷ []))
         by-case x false = refl
 

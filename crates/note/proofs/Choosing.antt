@@ -1,4 +1,5 @@
 -- The loops that choose regions. Assumes nothing.
+use Rattle.std.specs.Prelude.{filter}
 use Prim.Native.Nat.{ℕ, suc, ◌+◌, ◌-◌, ◌<◌, ◌≤◌}
 use mathlib.Core.Path.{◌≡◌, refl, sym, ap, ◌∙◌}
 use mathlib.Core.Bool.{Bool, true, false, cond, ◌&&◌}
@@ -9,14 +10,14 @@ use lib.Seq.{take_all, take-append-le, length-take-le}
 use lib.Dec.{ltb}
 use lib.Ieee.{Float}
 use borrow.Author.Tests.{ltb-true, ltb-false, le-ltb}
-use Rattle.program.specs.Bind.{indexes}
-use Rattle.program.specs.Lookup as lookup
+use Rattle.std.specs.List.{range_with_len}
+use Rattle.std.specs.List.{filter}
 use Rattle.program.specs.Lookup.{holds_key, regions_for_key, regions_from}
 use Rattle.program.specs.Region.{region_at}
 use Rattle.program.specs.declared.region.Choice.{Choice}
 use Rattle.program.proofs.Checks.{after}
 use Rattle.program.proofs.Lookups.{from_start, no-and}
-use Rattle.session.specs.Lists.{pick, keep, packed}
+use Rattle.session.specs.Lists.{packed}
 use Rattle.session.specs.Tests.{attack_playing}
 use Rattle.session.specs.declared.Sequences.{Sequences}
 use Rattle.session.specs.declared.Session.{Session}
@@ -39,11 +40,11 @@ and-true false = refl
 module _ (ws : List ℕ) (n key i : ℕ) where
   one : i < n → regions_from ws n key i ≡ cond (holds_key ws key i) (i ∷ regions_from ws n key (i + 1)) (regions_from ws n key (i + 1))
   unfolding regions_from
-  one h = let e : n - i ≡ suc (n - (i + 1)) = omega arith in ap (λ k. lookup.keep (holds_key ws key) (indexes i k)) e
+  one h = let e : n - i ≡ suc (n - (i + 1)) = omega arith in ap (λ k. filter (holds_key ws key) (range_with_len i k)) e
 
   none : n ≤ i → regions_from ws n key i ≡ []
   unfolding regions_from
-  none h = let e : n - i ≡ 0 = omega arith in ap (λ k. lookup.keep (holds_key ws key) (indexes i k)) e
+  none h = let e : n - i ≡ 0 = omega arith in ap (λ k. filter (holds_key ws key) (range_with_len i k)) e
 
   -- a loop that takes f at each of them: what is left once region i is done, and the end. b is the answer of the test
   module _ {B : Type 0} (f : B → ℕ → B) (start : B) (x : B) (so_far : start ≡ foldl f x (regions_from ws n key i)) where
@@ -69,15 +70,15 @@ pub added : (is : List ℕ) (i : ℕ) → add_region i (chosen_from is) ≡ chos
 unfolding add_region
 added is i = by-case (ltb (length is) 256) refl where
   by-case : (t : Bool) → ltb (length is) 256 ≡ t
-      → pick (ltb (length (take 256 is)) 256) (record { regions = set (packed (take 256 is) (replicate 256 0)) (length (take 256 is)) i; count = length (take 256 is) + 1 }) (chosen_from is)
+      → cond (ltb (length (take 256 is)) 256) (record { regions = set (packed (take 256 is) (replicate 256 0)) (length (take 256 is)) i; count = length (take 256 is) + 1 }) (chosen_from is)
       ≡ chosen_from (is ++ (i ∷ []))
   by-case true e =
       let h : length is < 256 = ltb-true (length is) 256 e in
       let all : take 256 is ≡ is = take_all 256 is (omega arith) in
       let n : length (is ++ (i ∷ [])) ≡ length is + 1 = length-append is (i ∷ []) in
       let alls : take 256 (is ++ (i ∷ [])) ≡ is ++ (i ∷ []) = take_all 256 (is ++ (i ∷ [])) (omega arith) in
-      ap (λ l. pick (ltb (length l) 256) (record { regions = set (packed l (replicate 256 0)) (length l) i; count = length l + 1 }) (chosen_from is)) all
-      ∙ ap (λ t. pick t (record { regions = set (packed is (replicate 256 0)) (length is) i; count = length is + 1 }) (chosen_from is)) e
+      ap (λ l. cond (ltb (length l) 256) (record { regions = set (packed l (replicate 256 0)) (length l) i; count = length l + 1 }) (chosen_from is)) all
+      ∙ ap (λ t. cond t (record { regions = set (packed is (replicate 256 0)) (length is) i; count = length is + 1 }) (chosen_from is)) e
       ∙ ap (λ l. record { regions = l; count = length is + 1 }) (packed-set is (replicate 256 0) i 0 (omega (arith, length-replicate {A = ℕ} 256 0)))
       ∙ ap (λ k. record { regions = packed (is ++ (i ∷ [])) (replicate 256 0); count = k }) (sym n)
       ∙ ap (λ l. record { regions = packed l (replicate 256 0); count = length l }) (sym alls)
@@ -85,7 +86,7 @@ added is i = by-case (ltb (length is) 256) refl where
       let h : 256 ≤ length is = ltb-false (length is) 256 e in
       let n : length (take 256 is) ≡ 256 = length-take-le 256 is h in
       let same : take 256 (is ++ (i ∷ [])) ≡ take 256 is = take-append-le 256 is (i ∷ []) h in
-      ap (λ t. pick t (record { regions = set (packed (take 256 is) (replicate 256 0)) (length (take 256 is)) i; count = length (take 256 is) + 1 }) (chosen_from is)) (le-ltb (length (take 256 is)) 256 (omega arith))
+      ap (λ t. cond t (record { regions = set (packed (take 256 is) (replicate 256 0)) (length (take 256 is)) i; count = length (take 256 is) + 1 }) (chosen_from is)) (le-ltb (length (take 256 is)) 256 (omega arith))
       ∙ ap (λ l. record { regions = packed l (replicate 256 0); count = length l }) (sym same)
 
 -- ---- at a note-on
@@ -97,8 +98,8 @@ module _ (h : Hit) where
   step-array : (c : Choosing) (i : ℕ) → chosen_step h (as_array c) i ≡ as_array (choose_one h c i)
   unfolding chosen_step choose_one
   step-array c i = by-case (starts_on h (moved (region_at h.words i) i c.seq) i) where
-    by-case : (t : Bool) → (record { seq = moved (region_at h.words i) i c.seq; chosen = pick t (add_region i (chosen_from c.regions)) (chosen_from c.regions) })
-        ≡ as_array (record { seq = moved (region_at h.words i) i c.seq; regions = pick t (c.regions ++ (i ∷ [])) c.regions })
+    by-case : (t : Bool) → (record { seq = moved (region_at h.words i) i c.seq; chosen = cond t (add_region i (chosen_from c.regions)) (chosen_from c.regions) })
+        ≡ as_array (record { seq = moved (region_at h.words i) i c.seq; regions = cond t (c.regions ++ (i ∷ [])) c.regions })
     by-case true = ap (λ (x : Chosen). record { seq = moved (region_at h.words i) i c.seq; chosen = x }) (added c.regions i)
     by-case false = refl
 
@@ -116,11 +117,11 @@ module _ (h : Hit) where
 
   -- what the test of `choose_one` tells
   module _ (c : ChosenOn) (i : ℕ) (q : Sequences) (b : Bool) (stepped : q ≡ moved (region_at h.words i) i c.seq) (told : b ≡ starts_on h q i) where
-    so : (t : Bool) → b ≡ t → (record { seq = q; chosen = pick t (add_region i c.chosen) c.chosen }) ≡ chosen_step h c i
+    so : (t : Bool) → b ≡ t → (record { seq = q; chosen = cond t (add_region i c.chosen) c.chosen }) ≡ chosen_step h c i
     unfolding chosen_step
     so t e =
-        ap (λ k. record { seq = q; chosen = pick k (add_region i c.chosen) c.chosen }) (sym e ∙ told)
-        ∙ ap (λ x. record { seq = x; chosen = pick (starts_on h x i) (add_region i c.chosen) c.chosen }) stepped
+        ap (λ k. record { seq = q; chosen = cond k (add_region i c.chosen) c.chosen }) (sym e ∙ told)
+        ∙ ap (λ x. record { seq = x; chosen = cond (starts_on h x i) (add_region i c.chosen) c.chosen }) stepped
 
     pub left_out : b ≡ false → (record { seq = q; chosen = c.chosen }) ≡ chosen_step h c i
     left_out e = so false e
@@ -131,17 +132,17 @@ module _ (h : Hit) where
 -- ---- at a note's release
 
 module _ (ws : List ℕ) (vel : ℕ) (draw : Float) (s : Session) where
-  fold-kept : (ks is : List ℕ) → foldl (release_step ws vel draw s) (chosen_from ks) is ≡ chosen_from (ks ++ keep (starts_off ws vel draw s) is)
+  fold-kept : (ks is : List ℕ) → foldl (release_step ws vel draw s) (chosen_from ks) is ≡ chosen_from (ks ++ filter (starts_off ws vel draw s) is)
   unfolding release_step
   fold-kept ks [] = ap chosen_from (sym (append-nil ks))
   fold-kept ks (i ∷ is) = by-case (starts_off ws vel draw s i) (fold-kept (ks ++ (i ∷ [])) is) (fold-kept ks is) where
-    by-case : (t : Bool) → foldl (release_step ws vel draw s) (chosen_from (ks ++ (i ∷ []))) is ≡ chosen_from ((ks ++ (i ∷ [])) ++ keep (starts_off ws vel draw s) is)
-        → foldl (release_step ws vel draw s) (chosen_from ks) is ≡ chosen_from (ks ++ keep (starts_off ws vel draw s) is)
-        → foldl (release_step ws vel draw s) (pick t (add_region i (chosen_from ks)) (chosen_from ks)) is
-        ≡ chosen_from (ks ++ pick t (i ∷ keep (starts_off ws vel draw s) is) (keep (starts_off ws vel draw s) is))
+    by-case : (t : Bool) → foldl (release_step ws vel draw s) (chosen_from (ks ++ (i ∷ []))) is ≡ chosen_from ((ks ++ (i ∷ [])) ++ filter (starts_off ws vel draw s) is)
+        → foldl (release_step ws vel draw s) (chosen_from ks) is ≡ chosen_from (ks ++ filter (starts_off ws vel draw s) is)
+        → foldl (release_step ws vel draw s) (cond t (add_region i (chosen_from ks)) (chosen_from ks)) is
+        ≡ chosen_from (ks ++ cond t (i ∷ filter (starts_off ws vel draw s) is) (filter (starts_off ws vel draw s) is))
     by-case true more same =
         ap (λ x. foldl (release_step ws vel draw s) x is) (added ks i) ∙ more
-        ∙ ap chosen_from (append_assoc ks (i ∷ []) (keep (starts_off ws vel draw s) is))
+        ∙ ap chosen_from (append_assoc ks (i ∷ []) (filter (starts_off ws vel draw s) is))
     by-case false more same = same
 
   pub off-start : (n key : ℕ) (c : Chosen) → c ≡ chosen_from [] → chosen_from (chosen_off ws n key vel draw s) ≡ foldl (release_step ws vel draw s) c (regions_from ws n key 0)
@@ -155,11 +156,11 @@ module _ (ws : List ℕ) (vel : ℕ) (draw : Float) (s : Session) where
   module _ (c : Chosen) (i : ℕ) (b : Bool) (told : b ≡ starts_off ws vel draw s i) where
     pub not-released : b ≡ false → c ≡ release_step ws vel draw s c i
     unfolding release_step
-    not-released e = ap (λ t. pick t (add_region i c) c) (sym e ∙ told)
+    not-released e = ap (λ t. cond t (add_region i c) c) (sym e ∙ told)
 
     pub released : (m : Chosen) → b ≡ true → m ≡ add_region i c → m ≡ release_step ws vel draw s c i
     unfolding release_step
-    released m e f = f ∙ ap (λ t. pick t (add_region i c) c) (sym e ∙ told)
+    released m e f = f ∙ ap (λ t. cond t (add_region i c) c) (sym e ∙ told)
 
 -- what the tests of `starts_off` tell
 module _ (ws : List ℕ) (vel : ℕ) (draw : Float) (s : Session) (i : ℕ) (on : Bool) (b : Bool) (flag : on ≡ get_or s.seq.seq_on i false) (told : b ≡ may_start (region_at ws i) vel draw on) where

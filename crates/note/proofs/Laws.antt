@@ -1,4 +1,6 @@
 -- What is chosen, for the crates above: how many, which, and what the sequences keep. Assumes nothing.
+use Rattle.session.proofs.Relist.{keep-fewer}
+use Rattle.std.specs.Prelude.{filter, ◌||◌}
 use Prim.Native.Nat.{ℕ, zero, suc, ◌+◌, ◌<◌, ◌≤◌}
 use mathlib.Core.Path.{◌≡◌, refl, ap, ◌∙◌}
 use mathlib.Core.Bool.{Bool, true, false, cond}
@@ -9,15 +11,14 @@ use lib.Seq.{take_all, take-append_seam}
 use lib.Dec.{eqb}
 use lib.Ieee.{Float}
 use borrow.Author.Tests.{eqb-true}
-use Rattle.program.specs.Bind.{indexes}
-use Rattle.program.specs.Lookup as lookup
+use Rattle.std.specs.List.{range_with_len}
+use Rattle.std.specs.List.{filter}
 use Rattle.program.specs.Lookup.{holds_key, regions_for_key}
 use Rattle.program.specs.Region.{region_at}
-use Rattle.session.specs.Lists.{pick, keep, elem, used_of, packed}
+use Rattle.session.specs.Lists.{elem, used_of, packed}
 use Rattle.session.specs.State.{seq_stepped}
 use Rattle.session.specs.declared.Sequences.{Sequences}
 use Rattle.session.specs.declared.Session.{Session}
-use Rattle.session.proofs.Voices.{keep-fewer}
 use Rattle.session.proofs.Walks.{used-small}
 use Rattle.note.specs.Choice.{Hit, Choosing, moved, starts_on, choose_one, choosing_on, starts_off, chosen_off, chosen_from, chosen_list}
 
@@ -40,7 +41,7 @@ module _ {P : ℕ → Type 0} where
   pub each-elem : {is : List ℕ} (k : ℕ) → Each P is → elem k is ≡ true → P k
   each-elem k none e = absurd (let z : ◌≡◌ {A = ℕ} 0 1 = cc in omega arith)
   each-elem k (also {i} {is} h hs) e = by-case (eqb i k) refl e h (each-elem k hs) where
-    by-case : (t : Bool) → eqb i k ≡ t → pick t true (elem k is) ≡ true → P i → (elem k is ≡ true → P k) → P k
+    by-case : (t : Bool) → eqb i k ≡ t → t || elem k is ≡ true → P i → (elem k is ≡ true → P k) → P k
     by-case true f g here later = rw (eqb-true i k f) at here
     by-case false f g here later = later g
 
@@ -48,28 +49,28 @@ module _ {P : ℕ → Type 0} where
   each_snoc none h = also h none
   each_snoc (also k ks) h = also k (each_snoc ks h)
 
-  each_keep : (p : ℕ → Bool) {is : List ℕ} → Each P is → Each P (keep p is)
+  each_keep : (p : ℕ → Bool) {is : List ℕ} → Each P is → Each P (filter p is)
   each_keep p none = none
   each_keep p (also {i} {is} h hs) = by-case (p i) (each_keep p hs) where
-    by-case : (t : Bool) → Each P (keep p is) → Each P (pick t (i ∷ keep p is) (keep p is))
+    by-case : (t : Bool) → Each P (filter p is) → Each P (cond t (i ∷ filter p is) (filter p is))
     by-case true rest = also h rest
     by-case false rest = rest
 
 -- ---- the regions of a key
 
-kept-few : (p : ℕ → Bool) (i k : ℕ) → length (lookup.keep p (indexes i k)) ≤ k
+kept-few : (p : ℕ → Bool) (i k : ℕ) → length (filter p (range_with_len i k)) ≤ k
 kept-few p i zero = omega arith
 kept-few p i (suc k) = by-case (p i) (kept-few p (i + 1) k) where
-  by-case : (t : Bool) → length (lookup.keep p (indexes (i + 1) k)) ≤ k
-      → length (cond t (i ∷ lookup.keep p (indexes (i + 1) k)) (lookup.keep p (indexes (i + 1) k))) ≤ suc k
+  by-case : (t : Bool) → length (filter p (range_with_len (i + 1) k)) ≤ k
+      → length (cond t (i ∷ filter p (range_with_len (i + 1) k)) (filter p (range_with_len (i + 1) k))) ≤ suc k
   by-case true h = omega arith
   by-case false h = omega arith
 
-kept-below : (p : ℕ → Bool) (n i k : ℕ) → i + k ≤ n → Each (λ j. j < n) (lookup.keep p (indexes i k))
+kept-below : (p : ℕ → Bool) (n i k : ℕ) → i + k ≤ n → Each (λ j. j < n) (filter p (range_with_len i k))
 kept-below p n i zero h = none
 kept-below p n i (suc k) h = by-case (p i) (kept-below p n (i + 1) k (omega arith)) where
-  by-case : (t : Bool) → Each (λ j. j < n) (lookup.keep p (indexes (i + 1) k))
-      → Each (λ j. j < n) (cond t (i ∷ lookup.keep p (indexes (i + 1) k)) (lookup.keep p (indexes (i + 1) k)))
+  by-case : (t : Bool) → Each (λ j. j < n) (filter p (range_with_len (i + 1) k))
+      → Each (λ j. j < n) (cond t (i ∷ filter p (range_with_len (i + 1) k)) (filter p (range_with_len (i + 1) k)))
   by-case true rest = let inside : i < n = omega arith in also inside rest
   by-case false rest = rest
 
@@ -88,7 +89,7 @@ module _ (h : Hit) where
   one_more : (c : Choosing) (i : ℕ) → length (choose_one h c i).regions ≤ length c.regions + 1
   unfolding choose_one
   one_more c i = by-case (starts_on h (moved (region_at h.words i) i c.seq) i) where
-    by-case : (t : Bool) → length (pick t (c.regions ++ (i ∷ [])) c.regions) ≤ length c.regions + 1
+    by-case : (t : Bool) → length (cond t (c.regions ++ (i ∷ [])) c.regions) ≤ length c.regions + 1
     by-case true = omega (arith, length-append c.regions (i ∷ []))
     by-case false = omega arith
 
@@ -99,7 +100,7 @@ module _ (h : Hit) where
   one_each : {P : ℕ → Type 0} (c : Choosing) (i : ℕ) → Each P c.regions → P i → Each P (choose_one h c i).regions
   unfolding choose_one
   one_each {P} c i hs k = by-case (starts_on h (moved (region_at h.words i) i c.seq) i) where
-    by-case : (t : Bool) → Each P (pick t (c.regions ++ (i ∷ [])) c.regions)
+    by-case : (t : Bool) → Each P (cond t (c.regions ++ (i ∷ [])) c.regions)
     by-case true = each_snoc hs k
     by-case false = hs
 

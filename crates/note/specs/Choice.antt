@@ -1,17 +1,15 @@
 -- Which regions a note-on starts, and which its release. Choosing changes nothing but the sequences. Definitions only.
-use Rattle.std.specs.Prelude.{ℕ, ◌+◌, Bool, true, false, ◌&&◌, length, take, get_or, set, replicate, ltb, leb, eqb, Float}
+use Rattle.std.specs.Prelude.{ℕ, ◌+◌, Bool, true, false, ◌&&◌, length, take, get_or, set, replicate, ltb, leb, eqb, Float, None, Option, Some, cond, filter}
 use mathlib.Core.List.{List, [], ◌∷◌, ◌++◌, foldl}
 use Rattle.std.specs.Float.Ieee.{le, lt}
 use Rattle.program.specs.Region.{region_at}
 use Rattle.program.specs.Lookup.{regions_for_key}
 use Rattle.program.specs.declared.region.Rand.{Rand}
-use Rattle.program.specs.declared.region.Rand.TheVariants.{AnyDraw, Within}
 use Rattle.program.specs.declared.region.Region.{Region}
 use Rattle.program.specs.declared.region.Seq.{Seq}
-use Rattle.program.specs.declared.region.Seq.TheVariants.{EveryTime, InTurn}
 use Rattle.program.specs.declared.region.Trigger.{Trigger}
 use Rattle.program.specs.declared.region.Trigger.TheVariants.{Attack, Release, ReleaseKey, First, Legato}
-use Rattle.session.specs.Lists.{pick, keep, used_of, packed}
+use Rattle.session.specs.Lists.{used_of, packed}
 use Rattle.session.specs.State.{seq_stepped}
 use Rattle.session.specs.Tests.{attack_playing}
 use Rattle.session.specs.declared.Sequences.{Sequences}
@@ -21,17 +19,17 @@ use Rattle.note.specs.declared.Chosen.{Chosen}
 use Rattle.note.specs.declared.choice.ChosenOn.{ChosenOn}
 
 -- a region without a sequence stands at 1 of 1
-abbrev pub length_of : Seq → ℕ
-length_of EveryTime = 1
-length_of (InTurn len at) = len
+abbrev pub length_of : Option Seq → ℕ
+length_of None = 1
+length_of (Some q) = q.length
 
-abbrev pub position_of : Seq → ℕ
-position_of EveryTime = 1
-position_of (InTurn len at) = at
+abbrev pub position_of : Option Seq → ℕ
+position_of None = 1
+position_of (Some q) = q.position
 
-abbrev pub draw_in : Rand → Float → Bool
-draw_in AnyDraw x = true
-draw_in (Within lo hi) x = le lo x && lt x hi
+abbrev pub draw_in : Option Rand → Float → Bool
+draw_in None x = true
+draw_in (Some r) x = le r.lo x && lt x r.hi
 
 -- the velocity window holds the velocity
 abbrev pub hears_velocity : Region → ℕ → Bool
@@ -74,7 +72,7 @@ starts_on h q i =
 unfoldable pub choose_one : Hit → Choosing → ℕ → Choosing
 choose_one h c i =
     let q = moved (region_at h.words i) i c.seq in
-    record { seq = q; regions = pick (starts_on h q i) (c.regions ++ (i ∷ [])) c.regions }
+    record { seq = q; regions = cond (starts_on h q i) (c.regions ++ (i ∷ [])) c.regions }
 
 -- every region of the key in program order
 unfoldable pub choosing_on : Hit → ℕ → ℕ → Sequences → Choosing
@@ -101,7 +99,7 @@ starts_off ws vel draw s i =
 
 -- the regions of the key that the note's release starts, in program order
 unfoldable pub chosen_off : List ℕ → ℕ → ℕ → ℕ → Float → Session → List ℕ
-chosen_off ws n key vel draw s = keep (starts_off ws vel draw s) (regions_for_key ws n key)
+chosen_off ws n key vel draw s = filter (starts_off ws vel draw s) (regions_for_key ws n key)
 
 -- ---- regions chosen, as an array of 256 places
 
@@ -120,14 +118,14 @@ chosen_on h n key q = record { seq = (choosing_on h n key q).seq; chosen = chose
 
 -- one more, where there is room
 unfoldable pub add_region : ℕ → Chosen → Chosen
-add_region i c = pick (ltb c.count 256) (record { regions = set c.regions c.count i; count = c.count + 1 }) c
+add_region i c = cond (ltb c.count 256) (record { regions = set c.regions c.count i; count = c.count + 1 }) c
 
 -- `choose_one` on the array
 unfoldable pub chosen_step : Hit → ChosenOn → ℕ → ChosenOn
 chosen_step h c i =
     let q = moved (region_at h.words i) i c.seq in
-    record { seq = q; chosen = pick (starts_on h q i) (add_region i c.chosen) c.chosen }
+    record { seq = q; chosen = cond (starts_on h q i) (add_region i c.chosen) c.chosen }
 
 -- one region of the release
 unfoldable pub release_step : List ℕ → ℕ → Float → Session → Chosen → ℕ → Chosen
-release_step ws vel draw s c i = pick (starts_off ws vel draw s i) (add_region i c) c
+release_step ws vel draw s c i = cond (starts_off ws vel draw s i) (add_region i c) c

@@ -17,35 +17,35 @@ pub struct ChosenOn {
 }
 
 // A region without a sequence stands at 1 of 1.
-fn seq_length(s: Seq) -> u32
+fn seq_length(s: Option<Seq>) -> u32
     ensures { result ≡ length_of s }
 {
     match s {
-        Seq::EveryTime => 1,
-        Seq::InTurn { length, position } => length,
+        None => 1,
+        Some(q) => q.length,
     }
 }
 
-fn seq_position(s: Seq) -> u32
+fn seq_position(s: Option<Seq>) -> u32
     ensures { result ≡ position_of s }
 {
     match s {
-        Seq::EveryTime => 1,
-        Seq::InTurn { length, position } => position,
+        None => 1,
+        Some(q) => q.position,
     }
 }
 
 // Whether the draw lies in the region's part, its upper end left out.
-fn draw_in(r: Rand, draw: f32) -> bool
+fn draw_in(r: Option<Rand>, draw: f32) -> bool
     ensures { result ≡ draw_in r draw }
 {
     match r {
-        Rand::AnyDraw => true,
-        Rand::Within { lo, hi } => {
-            if !(lo <= draw) {
+        None => true,
+        Some(r) => {
+            if !(r.lo <= draw) {
                 return false;
             }
-            draw < hi
+            draw < r.hi
         }
     }
 }

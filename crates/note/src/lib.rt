@@ -26,13 +26,6 @@ pub struct NoteState {
     pub choke_released: bool,
 }
 
-// The Rust's `Option<NoteState>`.
-#[derive(Clone, Copy)]
-pub enum MaybeNote {
-    Absent,
-    Present(NoteState),
-}
-
 // The inputs on the frame of a rising gate, and its time.
 #[derive(Clone, Copy)]
 pub struct Strike {

@@ -1,55 +1,48 @@
 -- A player that starts is sound. Assumes nothing.
+use Rattle.std.proofs.Common.{Float, None, Option, Some, ℕ}
 use mathlib.Core.Path.{refl}
 use mathlib.Core.Bool.{Bool, true, false, ◌&&◌, cond}
 use Prim.Native.Nat.{ℕ, ◌≤◌, ◌<◌}
 use native.Mathlib.Omega.{arith}
-use lib.Dec.{T, ltb, eqb, leb→le, ltb→lt}
+use lib.Dec.{T, ltb, leb→le, ltb→lt}
 use lib.Ieee.Fits.{and_r}
 use lib.Ieee.{Float, of_int}
 use Rattle.filter_design.specs.Slots.{run}
 use Rattle.filter_design.proofs.Built.{built-stages, built-count}
-use Rattle.gain.specs.declared.Curve.{Curve}
 use Rattle.interp.specs.Position.{Position, double}
 use Rattle.interp.proofs.HalfTaps.{half-small}
 use Rattle.program.specs.Valid.{loop_in_order}
 use Rattle.program.specs.declared.region.LoopMode.{LoopMode}
 use Rattle.program.specs.declared.region.LoopPoints.{LoopPoints}
-use Rattle.program.specs.declared.region.LoopPoints.TheVariants.{Unlooped, Looped}
-use Rattle.program.specs.declared.region.MaybeU32.{MaybeU32}
-use Rattle.program.specs.declared.region.MaybeU32.TheVariants as End
 use Rattle.program.specs.declared.region.Region.{Region}
 use Rattle.program.specs.declared.sample.Sample.{Sample}
 use Rattle.player.specs.Bounds.{LoopOk, PlayerOk}
 use Rattle.player.specs.Start.{pcm_of, last_of, loop_at, has_loop, loop_of, hot_at, cold_at, started_player}
-use Rattle.player.specs.declared.MaybeLoop.TheVariants.{Absent, Present}
 use Rattle.player.specs.declared.start.Event.{Event}
 use Rattle.player.specs.declared.start.Note.{Note}
 use Rattle.player.specs.declared.start.Pcm.{Pcm}
 use Rattle.player.proofs.Pitches.{at_first, pitched-ok}
 use Rattle.player.proofs.Within.{round-within}
 
-last-below : (end : MaybeU32) (frames : ℕ) → frames ≤ 4294967295 → last_of end frames < 4294967295
+last-below : (end : Option ℕ) (frames : ℕ) → frames ≤ 4294967295 → last_of end frames < 4294967295
 unfolding last_of
-last-below End.Absent frames h = omega arith
-last-below (End.Present e) frames h = omega arith
+last-below None frames h = omega arith
+last-below (Some e) frames h = omega arith
 
-few-frames : (i : ℕ) (s : Sample) (rate : Float) → s.frames ≤ 4294967295 → (pcm_of i s rate).frames ≤ 4294967295
+few-frames : (i : Option ℕ) (s : Sample) (rate : Float) → s.frames ≤ 4294967295 → (pcm_of i s rate).frames ≤ 4294967295
 unfolding pcm_of
-few-frames i s rate h = go (eqb i 0xffff_ffff)
-  where
-    go : (b : Bool) → (cond {A = Pcm} b (record { silent = true; frames = 0xffff_ffff; rate = rate; stereo = false }) (record { silent = false; frames = s.frames; rate = s.rate; stereo = eqb s.channels 2 })).frames ≤ 4294967295
-    go true = omega arith
-    go false = h
+few-frames None s rate h = omega arith
+few-frames (Some i) s rate h = h
 
-loop-sound : (mode : LoopMode) (points : LoopPoints) (pcm : Pcm) (last : ℕ) → T (loop_in_order points) → pcm.frames ≤ 4294967295 → LoopOk (loop_of mode points pcm last)
+loop-sound : (mode : LoopMode) (points : Option LoopPoints) (pcm : Pcm) (last : ℕ) → T (loop_in_order points) → pcm.frames ≤ 4294967295 → LoopOk (loop_of mode points pcm last)
 unfolding loop_of loop_at
-loop-sound mode Unlooped pcm last h f = tt
-loop-sound mode (Looped a b) pcm last h f = go (has_loop mode && ltb b pcm.frames) (λ (t : T (has_loop mode && ltb b pcm.frames)). ltb→lt b pcm.frames (and_r (has_loop mode) (ltb b pcm.frames) t))
+loop-sound mode None pcm last h f = tt
+loop-sound mode (Some l) pcm last h f = go (has_loop mode && ltb l.end pcm.frames) (λ (t : T (has_loop mode && ltb l.end pcm.frames)). ltb→lt l.end pcm.frames (and_r (has_loop mode) (ltb l.end pcm.frames) t))
   where
-    go : (x : Bool) → (T x → b < pcm.frames) → LoopOk (cond x (Present (loop_at a b last pcm.rate)) Absent)
+    go : (x : Bool) → (T x → l.end < pcm.frames) → LoopOk (cond x (Some (loop_at l.start l.end last pcm.rate)) None)
     go true g =
-        let o : a ≤ b = leb→le a b h in
-        let k : b < pcm.frames = g tt in
+        let o : l.start ≤ l.end = leb→le l.start l.end h in
+        let k : l.end < pcm.frames = g tt in
         (omega arith, omega arith, refl)
     go false g = tt
 
@@ -57,7 +50,7 @@ start-position : (n : ℕ) → n < 4294967296 → Position (double n)
 unfolding of_int
 start-position n h = round-within n 1 (omega arith) (omega arith)
 
-pub started-sound : (x : Region) (s : Sample) (c : Curve) (n : Note) (e : Event) (rate : Float)
+pub started-sound : (x : Region) (s : Sample) (c : Option Float) (n : Note) (e : Event) (rate : Float)
     → T (loop_in_order x.play.loop_points)
     → s.frames ≤ 4294967295
     → x.play.offset_frames < 4294967296

@@ -1,13 +1,12 @@
 -- What 01's test 8 asks of a player, as far as its frames lean on it. Definitions only.
-use Rattle.std.specs.Prelude.{◌≡◌, false, ◌+◌, ◌-◌, ◌≤◌, ◌<◌, T, pos, Float}
+use Rattle.player.specs.declared.LoopRt.{LoopRt}
+use Rattle.std.specs.Prelude.{◌≡◌, false, ◌+◌, ◌-◌, ◌≤◌, ◌<◌, T, pos, Float, None, Option, Some}
 use Rattle.std.specs.Float.{fin, binary64}
 use Rattle.std.specs.Float.Ieee.{le, of_bits}
 use Rattle.filter.specs.Filter.{AllStages}
 use Rattle.interp.specs.Position.{Position, first, double}
 use Rattle.player.specs.declared.Cold.{Cold}
 use Rattle.player.specs.declared.Player.{Player}
-use Rattle.player.specs.declared.MaybeLoop.{MaybeLoop}
-use Rattle.player.specs.declared.MaybeLoop.TheVariants.{Absent, Present}
 
 -- 4096.0
 abbrev pub most : Float
@@ -19,18 +18,18 @@ pub record Step (s : Float) : Type 0 where
   pub high : T (le s most)
 
 -- the end is below the frame count, which is at most 4,294,967,295, and not below the start; the size is end + 1 - start
-abbrev pub LoopOk : MaybeLoop → Type 0
-LoopOk Absent = Unit {0}
-LoopOk (Present l) = (l.start ≤ l.end) × (l.end < 4294967295) × (l.size ≡ double (l.end + 1 - l.start))
+abbrev pub LoopOk : Option LoopRt → Type 0
+LoopOk None = Unit {0}
+LoopOk (Some l) = (l.start ≤ l.end) × (l.end < 4294967295) × (l.size ≡ double (l.end + 1 - l.start))
 
 -- 4294967296.0
 abbrev pub bound : Float
 bound = fin false 1 (pos 32)
 
 -- a position in a loop is at most that
-abbrev pub Wrapped : MaybeLoop → Float → Type 0
-Wrapped Absent p = Unit {0}
-Wrapped (Present l) p = T (le p bound)
+abbrev pub Wrapped : Option LoopRt → Float → Type 0
+Wrapped None p = Unit {0}
+Wrapped (Some l) p = T (le p bound)
 
 pub record ColdOk (c : Cold) : Type 0 where
   pub step : Step c.step

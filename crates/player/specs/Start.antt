@@ -1,5 +1,5 @@
 -- A player at its start: a region, a note and a rate. Definitions only.
-use Rattle.std.specs.Prelude.{Bool, true, false, ◌&&◌, cond, ℕ, ◌+◌, ◌-◌, min, max, ltb, eqb, Float, replicate}
+use Rattle.std.specs.Prelude.{Bool, true, false, ◌&&◌, cond, ℕ, ◌+◌, ◌-◌, min, max, ltb, eqb, Float, replicate, None, Option, Some, unwrap_or}
 use Rattle.std.specs.Float.{binary32, binary64}
 use Rattle.std.specs.Float.Ieee.{div, lt, of_bits, of_int, to_unsigned}
 use Rattle.elementary.specs.Functions.{pow10_of}
@@ -9,7 +9,6 @@ use Rattle.exact.specs.Random.{drawn}
 use Rattle.filter_design.specs.Slots.{run, six_of}
 use Rattle.gain.specs.Gain.{velocity_gain, crossfade_gain, pan_matrix}
 use Rattle.exact.specs.Single.{f100}
-use Rattle.gain.specs.declared.Curve.{Curve}
 use Rattle.gain.specs.declared.Matrix.{Matrix}
 use Rattle.exact.specs.Single.{◌⊕◌, ◌⊖◌, ◌⊗◌, ◌⊘◌, single, f0}
 use Rattle.interp.specs.Position.{first, double}
@@ -21,9 +20,6 @@ use Rattle.program.specs.declared.region.Level.{Level}
 use Rattle.program.specs.declared.region.LoopMode.{LoopMode}
 use Rattle.program.specs.declared.region.LoopMode.TheVariants.{NoLoop, OneShot, Continuous, Sustain}
 use Rattle.program.specs.declared.region.LoopPoints.{LoopPoints}
-use Rattle.program.specs.declared.region.LoopPoints.TheVariants.{Unlooped, Looped}
-use Rattle.program.specs.declared.region.MaybeU32.{MaybeU32}
-use Rattle.program.specs.declared.region.MaybeU32.TheVariants as End
 use Rattle.program.specs.declared.region.Pitch.{Pitch}
 use Rattle.program.specs.declared.region.Playback.{Playback}
 use Rattle.program.specs.declared.region.Region.{Region}
@@ -31,8 +27,6 @@ use Rattle.program.specs.declared.region.Trigger.{Trigger}
 use Rattle.program.specs.declared.region.Trigger.TheVariants.{Attack, Release, ReleaseKey, First, Legato}
 use Rattle.program.specs.declared.sample.Sample.{Sample}
 use Rattle.player.specs.declared.LoopRt.{LoopRt}
-use Rattle.player.specs.declared.MaybeLoop.{MaybeLoop}
-use Rattle.player.specs.declared.MaybeLoop.TheVariants.{Absent, Present}
 use Rattle.player.specs.declared.Hot.{Hot}
 use Rattle.player.specs.declared.Cold.{Cold}
 use Rattle.player.specs.declared.Player.{Player}
@@ -42,15 +36,14 @@ use Rattle.player.specs.declared.start.Pcm.{Pcm}
 use Rattle.player.specs.Pitch.{pitched}
 
 -- the sample of a region: none, which counts as 4,294,967,295 frames at the engine's rate, or its own
-unfoldable pub pcm_of : ℕ → Sample → Float → Pcm
-pcm_of i s rate =
-    cond (eqb i 0xffff_ffff) (record { silent = true; frames = 0xffff_ffff; rate = rate; stereo = false })
-    (record { silent = false; frames = s.frames; rate = s.rate; stereo = eqb s.channels 2 })
+unfoldable pub pcm_of : Option ℕ → Sample → Float → Pcm
+pcm_of None s rate = record { silent = true; frames = 0xffff_ffff; rate = rate; stereo = false }
+pcm_of (Some i) s rate = record { silent = false; frames = s.frames; rate = s.rate; stereo = eqb s.channels 2 }
 
 -- the region's end, but at most the sample's last frame
-unfoldable pub last_of : MaybeU32 → ℕ → ℕ
-last_of End.Absent frames = frames - 1
-last_of (End.Present e) frames = min e (frames - 1)
+unfoldable pub last_of : Option ℕ → ℕ → ℕ
+last_of None frames = frames - 1
+last_of (Some e) frames = min e (frames - 1)
 
 -- 1e-3 seconds
 abbrev pub crossfade_time : Float
@@ -74,9 +67,10 @@ has_loop Continuous = true
 has_loop Sustain = true
 
 -- a loop (a, b) counts only if b is below the frame count
-unfoldable pub loop_of : LoopMode → LoopPoints → Pcm → ℕ → MaybeLoop
-loop_of mode Unlooped pcm last = Absent
-loop_of mode (Looped a b) pcm last = cond (has_loop mode && ltb b pcm.frames) (Present (loop_at a b last pcm.rate)) Absent
+unfoldable pub loop_of : LoopMode → Option LoopPoints → Pcm → ℕ → Option LoopRt
+loop_of mode None pcm last = None
+loop_of mode (Some l) pcm last =
+    cond (has_loop mode && ltb l.end pcm.frames) (Some (loop_at l.start l.end last pcm.rate)) None
 
 -- the volume with its random part; the draw's salt is 65,536 and the region's number
 unfoldable pub drawn_volume : Level → ℕ → ℕ → ℕ → Float
@@ -100,7 +94,7 @@ volume_of v t n e =
 abbrev pub f20 : Float
 f20 = of_bits binary32 0x41a0_0000
 
-unfoldable pub gain_of : Level → Trigger → Curve → Note → Event → Float
+unfoldable pub gain_of : Level → Trigger → Option Float → Note → Event → Float
 gain_of v t c n e = pow10_of (volume_of v t n e ⊘ f20) ⊗ velocity_gain v.amp_veltrack c n.vel ⊗ crossfade_gain v.xf_vel n.vel
 
 -- silence that plays once: its envelope runs freely
@@ -150,7 +144,7 @@ cold_at x p k release pcm kind gain m n rate =
     }
 
 -- The player of a region at a note's event. Its bend is 0 until the next block.
-unfoldable pub started_player : Region → Sample → Curve → Note → Event → Float → Player
+unfoldable pub started_player : Region → Sample → Option Float → Note → Event → Float → Player
 started_player x s c n e rate =
     let pcm = pcm_of x.sample s rate in
     let filters = six_of (run x n.note n.vel rate) in
@@ -163,6 +157,6 @@ started_player x s c n e rate =
       states = replicate 72 f0;
       slot = e.slot;
       region = e.region;
-      sample = x.sample;
+      sample = unwrap_or x.sample 0xffff_ffff;
       on_note = e.on_note;
     }

@@ -6,7 +6,7 @@ pub mod pitch;
 pub mod start;
 
 use envelope::Env;
-use filter::FilterSlot;
+use filter::FilterShape;
 use interp::Interp;
 use interp::sinc::SincSpan;
 use program::region::{LoopMode, OffMode};
@@ -20,13 +20,6 @@ pub struct LoopRt {
     pub size: f64,
     pub xf: u32,
     pub xf_out_start: u32,
-}
-
-// The Rust's `Option<LoopRt>`.
-#[derive(Clone, Copy)]
-pub enum MaybeLoop {
-    Absent,
-    Present(LoopRt),
 }
 
 #[derive(Clone, Copy)]
@@ -48,7 +41,7 @@ pub struct Cold {
     pub stereo: bool,
     // There is no sample.
     pub silent: bool,
-    pub lp: MaybeLoop,
+    pub lp: Option<LoopRt>,
     pub loop_mode: LoopMode,
     pub n_filters: u8,
     pub gain: f32,
@@ -74,7 +67,7 @@ pub struct Cold {
 pub struct Player {
     pub hot: Hot,
     pub cold: Cold,
-    pub slots: [FilterSlot; 6],
+    pub slots: [FilterShape; 6],
     pub states: [f32; 72],
     pub slot: u32,
     pub region: u32,

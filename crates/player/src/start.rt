@@ -4,7 +4,7 @@ ghost use Rattle.program.specs.Valid.{loop_in_order};
 ghost use Rattle.player.specs.Start.{pcm_of, last_of, fade_frames, loop_at, has_loop, loop_of, drawn_volume, on_release, volume_of, gain_of, is_one_shot, hot_at, cold_at, started_player};
 
 use super::pitch::set_pitch;
-use super::{Cold, Hot, LoopRt, MaybeLoop, Player};
+use super::{Cold, Hot, LoopRt, Player};
 use elementary::power::pow10;
 use envelope::{Env, secs_to_samples};
 use exact::cast::{f32_to_u32, i32_to_f32, u32_to_f32};
@@ -12,11 +12,11 @@ use exact::format::widen;
 use exact::integral::round_f32;
 use exact::random::rand01;
 use filter_design::slots::build_filters;
-use gain::{Curve, Matrix, pan_matrix, velocity_gain, xf_gain};
+use gain::{Matrix, pan_matrix, velocity_gain, xf_gain};
 use interp::Interp;
 use interp::sinc::SincSpan;
 use program::region::{
-    Choke, Envelope, Level, LoopMode, LoopPoints, MaybeU32, Pitch, Playback, Region, Trigger,
+    Choke, Envelope, Level, LoopMode, LoopPoints, Pitch, Playback, Region, SILENCE, Trigger,
 };
 use program::sample::Sample;
 
@@ -48,22 +48,23 @@ pub struct Pcm {
     pub stereo: bool,
 }
 
-fn pcm_of(index: u32, s: Sample, sr: f32) -> Pcm
+#[tactic(auto, unfolding(crate::specs::Start::pcm_of))]
+fn pcm_of(index: Option<u32>, s: Sample, sr: f32) -> Pcm
     ensures { result ≡ pcm_of index s sr }
 {
-    if index == 0xffff_ffff {
-        return Pcm {
+    match index {
+        None => Pcm {
             silent: true,
             frames: 0xffff_ffff,
             rate: sr,
             stereo: false,
-        };
-    }
-    Pcm {
-        silent: false,
-        frames: s.frames,
-        rate: s.rate,
-        stereo: s.channels == 2,
+        },
+        Some(_) => Pcm {
+            silent: false,
+            frames: s.frames,
+            rate: s.rate,
+            stereo: s.channels == 2,
+        },
     }
 }
 
@@ -74,13 +75,13 @@ fn lesser(a: u32, b: u32) -> u32
 }
 
 // The frame at which the sample ends.
-fn last_of(end: MaybeU32, frames: u32) -> u32
+fn last_of(end: Option<u32>, frames: u32) -> u32
     ensures { result ≡ last_of end frames }
 {
     let top = frames - lesser(frames, 1);
     match end {
-        MaybeU32::Absent => top,
-        MaybeU32::Present(e) => lesser(e, top),
+        None => top,
+        Some(e) => lesser(e, top),
     }
 }
 
@@ -124,21 +125,16 @@ fn has_loop(mode: LoopMode) -> bool
 }
 
 // A loop counts only if its end is a frame of the sample.
-fn loop_of(mode: LoopMode, points: LoopPoints, pcm: Pcm, last: u32) -> MaybeLoop
+#[tactic(auto, unfolding(crate::specs::Start::loop_of))]
+fn loop_of(mode: LoopMode, points: Option<LoopPoints>, pcm: Pcm, last: u32) -> Option<LoopRt>
     requires { T (loop_in_order points) }
     ensures { result ≡ loop_of mode points pcm last }
 {
-    match points {
-        LoopPoints::Unlooped => MaybeLoop::Absent,
-        LoopPoints::Looped { start, end } => {
-            if has_loop(mode) {
-                if end < pcm.frames {
-                    let l = loop_at(start, end, last, pcm.rate);
-                    return MaybeLoop::Present(l);
-                }
-            }
-            MaybeLoop::Absent
-        }
+    let p = points?;
+    if has_loop(mode) && p.end < pcm.frames {
+        Some(loop_at(p.start, p.end, last, pcm.rate))
+    } else {
+        None
     }
 }
 
@@ -176,7 +172,7 @@ fn volume_of(level: Level, trigger: Trigger, note: Note, event: Event) -> f32
     v
 }
 
-fn gain_of(level: Level, trigger: Trigger, curve: Curve, note: Note, event: Event) -> f32
+fn gain_of(level: Level, trigger: Trigger, curve: Option<f32>, note: Note, event: Event) -> f32
     ensures { result ≡ gain_of level trigger curve note event }
 {
     let xf = level.xf_vel;
@@ -269,7 +265,7 @@ fn cold_at(
 pub fn start(
     region: Region,
     sample: Sample,
-    curve: Curve,
+    curve: Option<f32>,
     note: Note,
     event: Event,
     sr: f32,
@@ -312,7 +308,7 @@ pub fn start(
         states,
         slot: event.slot,
         region: event.region,
-        sample: region.sample,
+        sample: region.sample.unwrap_or(SILENCE),
         on_note: event.on_note,
     }
 }

@@ -1,4 +1,5 @@
 -- Players that pass 01's test 8 meet what their segments lean on. Assumes nothing.
+use Rattle.std.proofs.Common.{None, Option, Some}
 use Prim.Native.Nat.{ℕ, ◌+◌, ◌-◌, ◌*◌, ◌^◌, ◌<◌, ◌≤◌}
 use mathlib.Core.Path.{◌≡◌, refl, sym, ap, subst, ◌∙◌}
 use mathlib.Core.Bool.{Bool, true, false, not, ◌&&◌, ◌||◌, cond, true≢false, beq}
@@ -13,7 +14,7 @@ use lib.Ieee.Back.{whole_unique}
 use lib.Ieee.Exact.{HasValue}
 use lib.Ieee.Fits.{and_l, and_r, down_pos, of_int-fits}
 use borrow.Author.Tests.{ltb-true, ltb-false, leb-true, leb-false, lt-ltb, le-ltb, lt-leb, le-leb, not-true, not-false}
-use Rattle.filter.specs.declared.FilterSlot.{FilterSlot}
+use Rattle.filter.specs.declared.FilterShape.{FilterShape}
 use Rattle.filter.specs.declared.FilterShape.TheVariants.{Off}
 use Rattle.filter.specs.Filter.{AllStages, stage_count, shape_at}
 use Rattle.interp.specs.Position.{double}
@@ -25,15 +26,13 @@ use Rattle.program.specs.declared.bind.BoundProgram.{BoundProgram}
 use Rattle.session.proofs.Walks.{used-small}
 use Rattle.player.specs.Bounds.{LoopOk, PlayerOk}
 use Rattle.player.specs.declared.LoopRt.{LoopRt}
-use Rattle.player.specs.declared.MaybeLoop.{MaybeLoop}
-use Rattle.player.specs.declared.MaybeLoop.TheVariants.{Absent, Present}
 use Rattle.player.specs.declared.Player.{Player}
 use Rattle.players.specs.declared.Players.{Players}
 use Rattle.players.specs.Seats.{PlayersOk, sounding, no_player}
 use Rattle.player_checks.specs.Sound.{slot_fits, stages_over, is_double, loop_wrong, position_out, step_out, frame_count, loop_past, own_tests, sample_tests, player_fits, sample_fits, players_fit, samples_fit}
-use Rattle.program.proofs.Binding.{every-at}
+use Rattle.program.proofs.Checks.{every-at}
 use Rattle.program.proofs.Checks.{every-no, after, final}
-use Rattle.program.proofs.Finite.{and-true}
+use Rattle.program.proofs.Checks.{and-true}
 use Rattle.players.proofs.Passing.{each_at}
 
 true-is : (t : Bool) → t ≡ true → T t
@@ -86,7 +85,7 @@ above i j = by-case (leb j i) refl
 abbrev loop_tests : LoopRt → List Bool
 loop_tests l = leb l.start l.end ∷ is_double (l.end + 1 - l.start) l.size ∷ leb l.xf l.start ∷ []
 
-module _ (lp : MaybeLoop) (l : LoopRt) (is : lp ≡ Present l) where
+module _ (lp : Option LoopRt) (l : LoopRt) (is : lp ≡ Some l) where
   pub ends-early : l.end < l.start → true ≡ loop_wrong lp
   unfolding loop_wrong
   ends-early h = ap not (every-no (loop_tests l) 0 (lt-leb _ _ h)) ∙ ap loop_wrong (sym is)
@@ -105,10 +104,10 @@ module _ (lp : MaybeLoop) (l : LoopRt) (is : lp ≡ Present l) where
 -- ---- a player
 
 -- the loop passes, and ends below n frames
-loop-ok : (lp : MaybeLoop) (n : ℕ) → n ≤ 4294967295 → loop_wrong lp ≡ false → loop_past n lp ≡ false → LoopOk lp
+loop-ok : (lp : Option LoopRt) (n : ℕ) → n ≤ 4294967295 → loop_wrong lp ≡ false → loop_past n lp ≡ false → LoopOk lp
 unfolding loop_wrong
-loop-ok Absent n h w p = tt
-loop-ok (Present l) n h w p =
+loop-ok None n h w p = tt
+loop-ok (Some l) n h w p =
     let ts = loop_tests l in
     let all : every ts ≡ true = not-false (every ts) w in
     let a : l.start ≤ l.end = leb-true _ _ (every-at ts 0 all) in
@@ -118,13 +117,13 @@ loop-ok (Present l) n h w p =
 within : (lo hi x : Float) → not (le lo x && le x hi) ≡ false → T (le lo x) × T (le x hi)
 within lo hi x e = let t : T (le lo x && le x hi) = true-is _ (not-false (le lo x && le x hi) e) in (and_l (le lo x) _ t, and_r (le lo x) _ t)
 
-stages-ok : (slots : List FilterSlot) → every (map slot_fits slots) ≡ true → AllStages slots
+stages-ok : (slots : List FilterShape) → every (map slot_fits slots) ≡ true → AllStages slots
 stages-ok slots e k = by-case (ltb k (length slots)) refl
   where
     by-case : (t : Bool) → ltb k (length slots) ≡ t → stage_count (shape_at slots k) ≤ 3
-    by-case true q = leb-true _ _ (each_at slot_fits slots k (record { shape = Off }) e (ltb-true k (length slots) q))
+    by-case true q = leb-true _ _ (each_at slot_fits slots k Off e (ltb-true k (length slots) q))
     by-case false q =
-        let z : stage_count (shape_at slots k) ≡ 0 = ap (λ (s : FilterSlot). stage_count s.shape) (get_or-eq_default slots (record { shape = Off }) (ltb-false k (length slots) q)) in
+        let z : stage_count (shape_at slots k) ≡ 0 = ap stage_count (get_or-eq_default slots Off (ltb-false k (length slots) q)) in
         omega arith
 
 -- a sample's words are below 2 ^ 32, and so are its frames

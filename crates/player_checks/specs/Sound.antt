@@ -1,15 +1,14 @@
 -- What 01's test 8 refuses in a player, each cause by itself. Definitions only.
-use Rattle.std.specs.Prelude.{ℕ, ◌+◌, ◌-◌, Bool, false, not, ◌&&◌, cond, List, [], ◌∷◌, map, ltb, leb, eqb, Float}
+use Rattle.player.specs.declared.LoopRt.{LoopRt}
+use Rattle.std.specs.Prelude.{ℕ, ◌+◌, ◌-◌, Bool, false, not, ◌&&◌, cond, List, [], ◌∷◌, map, ltb, leb, eqb, Float, None, Option, Some}
 use Rattle.std.specs.Float.{binary64}
 use Rattle.std.specs.Float.Ieee.{le, eq, fits}
-use Rattle.filter.specs.declared.FilterSlot.{FilterSlot}
+use Rattle.filter.specs.declared.FilterShape.{FilterShape}
 use Rattle.filter.specs.Filter.{stage_count}
 use Rattle.interp.specs.Position.{first, furthest, double}
 use Rattle.program.specs.Sample.{sample_at}
 use Rattle.program.specs.Valid.{every}
 use Rattle.program.specs.declared.bind.BoundProgram.{BoundProgram}
-use Rattle.player.specs.declared.MaybeLoop.{MaybeLoop}
-use Rattle.player.specs.declared.MaybeLoop.TheVariants.{Absent, Present}
 use Rattle.player.specs.declared.Player.{Player}
 use Rattle.player.specs.Bounds.{most}
 use Rattle.players.specs.declared.Players.{Players}
@@ -32,8 +31,8 @@ abbrev pub filters_over : Player → Bool
 filters_over p = ltb 6 p.cold.n_filters
 
 -- a filter slot has at most 3 stages
-abbrev pub slot_fits : FilterSlot → Bool
-slot_fits s = leb (stage_count s.shape) 3
+abbrev pub slot_fits : FilterShape → Bool
+slot_fits s = leb (stage_count s) 3
 
 -- stages above 3 in one of its slots
 unfoldable pub stages_over : Player → Bool
@@ -44,9 +43,9 @@ unfoldable pub is_double : ℕ → Float → Bool
 is_double n x = eq x (double n) && fits binary64 x
 
 -- a loop whose end is below its start, whose size is not end + 1 - start, or whose fade exceeds its start
-unfoldable pub loop_wrong : MaybeLoop → Bool
-loop_wrong Absent = false
-loop_wrong (Present l) =
+unfoldable pub loop_wrong : Option LoopRt → Bool
+loop_wrong None = false
+loop_wrong (Some l) =
     not (every (leb l.start l.end ∷ is_double (l.end + 1 - l.start) l.size ∷ leb l.xf l.start ∷ []))
 
 -- a position not within 0 to 8,589,934,592
@@ -62,9 +61,9 @@ unfoldable pub frame_count : List ℕ → Player → ℕ
 frame_count ss p = cond (eqb p.sample 0xffff_ffff) 0xffff_ffff (sample_at ss p.sample).frames
 
 -- a loop whose end is not below the frame count
-abbrev pub loop_past : ℕ → MaybeLoop → Bool
-loop_past n Absent = false
-loop_past n (Present l) = leb n l.end
+abbrev pub loop_past : ℕ → Option LoopRt → Bool
+loop_past n None = false
+loop_past n (Some l) = leb n l.end
 
 -- a `last` not below the frame count
 abbrev pub last_past : ℕ → Player → Bool

@@ -5,8 +5,8 @@ ghost use Rattle.session.specs.Lists.{used_of};
 ghost use Rattle.players.specs.Seats.{sounding, slots_from, slot_numbers};
 ghost use Rattle.player_checks.specs.Sound.{region_out, sample_out, span_over, filters_over, slot_fits, stages_over, is_double, loop_wrong, position_out, step_out, frame_count, loop_past, last_past, player_fits, sample_fits, players_fit, samples_fit};
 
-use filter::{FilterShape, FilterSlot};
-use player::{MaybeLoop, Player};
+use filter::FilterShape;
+use player::{LoopRt, Player};
 use players::Players;
 use program::bind::BoundProgram;
 use program::sample::sample_at;
@@ -51,25 +51,15 @@ fn stage_count(shape: FilterShape) -> u8
     ensures { result ≡ stage_count shape }
 {
     match shape {
-        FilterShape::Off => 0,
-        FilterShape::Lp1 { p: _ } => 0,
-        FilterShape::Hp1 { p: _ } => 0,
-        FilterShape::Biquad {
-            b0: _,
-            b1: _,
-            b2: _,
-            a1: _,
-            a2: _,
-            stages,
-        } => stages,
+        FilterShape::Biquad { stages, .. } => stages,
+        _ => 0,
     }
 }
 
-fn slot_fits(s: FilterSlot) -> bool
+fn slot_fits(s: FilterShape) -> bool
     ensures { result ≡ slot_fits s }
 {
-    let shape = s.shape;
-    stage_count(shape) <= 3
+    stage_count(s) <= 3
 }
 
 fn stages_over(p: Player) -> bool
@@ -94,12 +84,12 @@ fn is_double(n: u64, x: f64) -> bool
     x == (n as f64)
 }
 
-fn loop_wrong(lp: MaybeLoop) -> bool
+fn loop_wrong(lp: Option<LoopRt>) -> bool
     ensures { result ≡ loop_wrong lp }
 {
     match lp {
-        MaybeLoop::Absent => false,
-        MaybeLoop::Present(l) => {
+        None => false,
+        Some(l) => {
             if l.end < l.start {
                 return true;
             }
@@ -172,12 +162,12 @@ fn frame_count(p: Player, samples: &[u32]) -> u32
     s.frames
 }
 
-fn loop_past(n: u32, lp: MaybeLoop) -> bool
+fn loop_past(n: u32, lp: Option<LoopRt>) -> bool
     ensures { result ≡ loop_past n lp }
 {
     match lp {
-        MaybeLoop::Absent => false,
-        MaybeLoop::Present(l) => n <= l.end,
+        None => false,
+        Some(l) => n <= l.end,
     }
 }
 

@@ -1,4 +1,6 @@
 -- The players' segments, one after the other: the loop's state, and what a segment keeps. Assumes nothing.
+use Rattle.std.specs.List.{list_any}
+use Rattle.std.specs.Prelude.{cond}
 use Prim.Native.Nat.{ℕ, zero, suc, ◌+◌, ◌-◌, ◌<◌, ◌≤◌}
 use mathlib.Core.Path.{◌≡◌, refl, sym, ap, subst, ◌∙◌}
 use mathlib.Core.Bool.{Bool, true, false, ◌||◌}
@@ -9,7 +11,7 @@ use native.Mathlib.Numerals.{add-one}
 use lib.ListN.{length, take, drop, get_or, set, replicate, length-append, length-set}
 use lib.Seq.{take-suc, take_all, get_or-append-add, get_or-drop}
 use lib.Ieee.{Float}
-use Rattle.session.specs.Lists.{pick, packed, used_of, any}
+use Rattle.session.specs.Lists.{packed, used_of}
 use Rattle.session.specs.declared.Slots.{Slots}
 use Rattle.session.proofs.Packing.{packed-set}
 use Rattle.session.proofs.Walks.{used-small}
@@ -44,7 +46,7 @@ abbrev made : List ℕ → ℕ → Slots
 made l n = record { slots = l; count = n }
 
 -- one slot more among fewer than 32
-slots-noted : (t : Bool) (ks : List ℕ) (k : ℕ) → length ks < 32 → noted t k (slots_from ks) ≡ slots_from (pick t (ks ++ (k ∷ [])) ks)
+slots-noted : (t : Bool) (ks : List ℕ) (k : ℕ) → length ks < 32 → noted t k (slots_from ks) ≡ slots_from (cond t (ks ++ (k ∷ [])) ks)
 unfolding noted
 slots-noted false ks k h = refl
 slots-noted true ks k h =
@@ -56,7 +58,7 @@ slots-noted true ks k h =
     ∙ ap (made (packed (ks ++ (k ∷ [])) (replicate 32 0))) (sym n)
     ∙ ap (λ (l : List ℕ). made (packed l (replicate 32 0)) (length l)) (sym b)
 
-few-more : (t : Bool) (ks : List ℕ) (k n : ℕ) → length ks ≤ n → length (pick t (ks ++ (k ∷ [])) ks) ≤ n + 1
+few-more : (t : Bool) (ks : List ℕ) (k n : ℕ) → length ks ≤ n → length (cond t (ks ++ (k ∷ [])) ks) ≤ n + 1
 few-more true ks k n h = omega (arith, length-append ks (k ∷ []))
 few-more false ks k n h = omega arith
 
@@ -64,7 +66,7 @@ abbrev seated_as : List Player → ℕ → Players
 seated_as l n = record { players = l; count = n }
 
 -- whether one more is over
-over-more : (o w : Bool) (qs : List Player) (q : Player) → o ≡ any is_over qs → w ≡ o || is_over q → w ≡ any is_over (qs ++ (q ∷ []))
+over-more : (o w : Bool) (qs : List Player) (q : Player) → o ≡ list_any is_over qs → w ≡ o || is_over q → w ≡ list_any is_over (qs ++ (q ∷ []))
 over-more o w qs q e f = f ∙ ap (λ (t : Bool). t || is_over q) e ∙ sym (any-more is_over qs q)
 
 -- what the test of the envelope tells
@@ -97,7 +99,7 @@ module _ (x : Sounds) (u : Tune) (ps : Players) (l₀ r₀ : List Float) where
     pub seats : t.players ≡ packed (so_far k).players ps.players
     pub count : t.count ≡ ps.count
     pub ended : e ≡ slots_from (so_far k).ended
-    pub over : o ≡ any is_over (so_far k).players
+    pub over : o ≡ list_any is_over (so_far k).players
     pub left : l ≡ (so_far k).left
     pub right : r ≡ (so_far k).right
     pub size : length t.players ≡ 32
@@ -148,7 +150,7 @@ module _ (x : Sounds) (u : Tune) (ps : Players) (l₀ r₀ : List Float) where
     abbrev joined : ℕ → Rendered → Band
     joined n v = record {
       players = (so_far k).players ++ (v.played.player ∷ []);
-      ended = pick v.played.ended ((so_far k).ended ++ (n ∷ [])) (so_far k).ended;
+      ended = cond v.played.ended ((so_far k).ended ++ (n ∷ [])) (so_far k).ended;
       left = v.left;
       right = v.right;
     }
@@ -178,7 +180,7 @@ module _ (x : Sounds) (u : Tune) (ps : Players) (l₀ r₀ : List Float) where
           is ∙ ap (noted y.ended (get_or t.players k d).slot) g.ended
           ∙ slots-noted y.ended (so_far k).ended (get_or t.players k d).slot (omega (arith, g.few, ok.few))
           ∙ ap (λ (b : Band). slots_from b.ended) (sym is-next);
-      over = over-more o o₁ (so_far k).players y.player g.over told ∙ ap (λ (b : Band). any is_over b.players) (sym is-next);
+      over = over-more o o₁ (so_far k).players y.player g.over told ∙ ap (λ (b : Band). list_any is_over b.players) (sym is-next);
       left = ap (λ (b : Band). b.left) (sym is-next);
       right = ap (λ (b : Band). b.right) (sym is-next);
       size = length-set t.players k y.player ∙ g.size;
@@ -202,10 +204,10 @@ module _ (x : Sounds) (u : Tune) (ps : Players) (l₀ r₀ : List Float) where
         ap (λ (n : ℕ). seated_as t.players n) (g.count ∙ sym (le_antisymm low high) ∙ sym g.counted)
         ∙ ap (λ (v : List Player). seated_as v (length (so_far k).players)) g.seats
 
-    pub going-over : o ≡ any is_over (sounding t)
+    pub going-over : o ≡ list_any is_over (sounding t)
     going-over =
         g.over
-        ∙ ap (any is_over) (sym (ap (λ (v : Players). sounding v) seated-all ∙ sounding-reseat (so_far k).players ps (omega (arith, g.counted, ok.few))))
+        ∙ ap (list_any is_over) (sym (ap (λ (v : Players). sounding v) seated-all ∙ sounding-reseat (so_far k).players ps (omega (arith, g.counted, ok.few))))
 
     -- the band of the tuned players
     band-full : so_far k ≡ played_band x (sounding (tuned_all u ps)) l₀ r₀

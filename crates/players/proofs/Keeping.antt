@@ -9,9 +9,9 @@ use lib.Dec.{eqb}
 use lib.ListN.{length, take, replicate, length-append, length-map, length-set, length-take}
 use lib.Seq.{take-append_seam, take_all}
 use lib.Ieee.{Float}
-use Rattle.filter.specs.declared.FilterSlot.{FilterSlot}
+use Rattle.filter.specs.declared.FilterShape.{FilterShape}
 use Rattle.filter.specs.Filter.{chained}
-use Rattle.session.specs.Lists.{pick, elem, packed, used_of}
+use Rattle.session.specs.Lists.{elem, packed, used_of}
 use Rattle.session.specs.State.{slot_list}
 use Rattle.session.proofs.Walks.{used-below, used-small}
 use Rattle.player.specs.declared.Cold.{Cold}
@@ -30,7 +30,7 @@ pub record SameLengths (l r : List Float) (x : Run) : Type 0 where
   pub left : length x.left ≡ length l
   pub right : length x.right ≡ length r
 
-module _ (c : Cold) (fs : List FilterSlot) (s : Lent) (l r : List Float) where
+module _ (c : Cold) (fs : List FilterShape) (s : Lent) (l r : List Float) where
   one-frame : (j : ℕ) (x : Run) (f : Frame) → SameLengths l r x → (t : Bool) → SameLengths l r
       (cond t (record { hot = f.hot; states = x.states; left = x.left; right = x.right; done = true })
       (mixed c j x f (chained fs c.stereo c.n_filters (record { l = f.l; r = f.r; states = x.states }))))
@@ -76,16 +76,16 @@ at-end : (k : ℕ) (ks : List ℕ) (s : ℕ) → elem k (ks ++ (s ∷ [])) ≡ (
 at-end k [] s = refl
 at-end k (y ∷ ks) s = by-case (eqb y k) (at-end k ks s)
   where
-    by-case : (t : Bool) → elem k (ks ++ (s ∷ [])) ≡ (elem k ks || elem k (s ∷ [])) → pick t true (elem k (ks ++ (s ∷ []))) ≡ (pick t true (elem k ks) || elem k (s ∷ []))
+    by-case : (t : Bool) → elem k (ks ++ (s ∷ [])) ≡ (elem k ks || elem k (s ∷ [])) → t || elem k (ks ++ (s ∷ [])) ≡ ((t || elem k ks) || elem k (s ∷ []))
     by-case true e = refl
     by-case false e = e
 
-one_told : (a e r : Bool) → ((a || pick e true false) || r) ≡ true → (a || pick e true r) ≡ true
+one_told : (a e r : Bool) → ((a || (e || false)) || r) ≡ true → (a || (e || r)) ≡ true
 one_told true e r h = refl
 one_told false true r h = refl
 one_told false false r h = h
 
-none_told : (a e r : Bool) → (a || r) ≡ true → (a || pick e true r) ≡ true
+none_told : (a e r : Bool) → (a || r) ≡ true → (a || (e || r)) ≡ true
 none_told true e r h = refl
 none_told false true r h = refl
 none_told false false r h = h
@@ -117,7 +117,7 @@ module _ (x : Sounds) where
   band-told [] b = omega arith
   band-told (p ∷ ps) b = omega (arith, band-told ps (joined_by x b p), told (played_by (lent_to x p) p b.left b.right).played.ended)
     where
-      told : (t : Bool) → length (pick t (b.ended ++ (p.slot ∷ [])) b.ended) ≤ suc (length b.ended)
+      told : (t : Bool) → length (cond t (b.ended ++ (p.slot ∷ [])) b.ended) ≤ suc (length b.ended)
       told true = omega (arith, length-append b.ended (p.slot ∷ []))
       told false = omega arith
 
@@ -131,8 +131,8 @@ module _ (x : Sounds) where
       by-case false h = h
   band-slots k (p ∷ ps) b h = by-case (played_by (lent_to x p) p b.left b.right).played.ended (band-slots k ps (joined_by x b p) h)
     where
-      by-case : (t : Bool) → (elem k (pick t (b.ended ++ (p.slot ∷ [])) b.ended) || elem k (slot_numbers ps)) ≡ true
-          → (elem k b.ended || pick (eqb p.slot k) true (elem k (slot_numbers ps))) ≡ true
+      by-case : (t : Bool) → (elem k (cond t (b.ended ++ (p.slot ∷ [])) b.ended) || elem k (slot_numbers ps)) ≡ true
+          → (elem k b.ended || (eqb p.slot k || elem k (slot_numbers ps))) ≡ true
       by-case true h =
           one_told (elem k b.ended) (eqb p.slot k) (elem k (slot_numbers ps)) (ap (λ t. t || elem k (slot_numbers ps)) (sym (at-end k b.ended p.slot)) ∙ h)
       by-case false h = none_told (elem k b.ended) (eqb p.slot k) (elem k (slot_numbers ps)) h

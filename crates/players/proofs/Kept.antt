@@ -1,4 +1,5 @@
 -- Each player of the result is sound where each was. Assumes nothing.
+use Rattle.std.specs.Prelude.{cond, filter}
 use Prim.Native.Nat.{ℕ, zero, suc, ◌+◌, ◌<◌, ◌≤◌}
 use mathlib.Core.Path.{◌≡◌, refl, sym, ap, subst, ◌∙◌}
 use mathlib.Core.Bool.{Bool, true, false, not}
@@ -9,7 +10,7 @@ use lib.Seq.{get_or-take, get_or-set_same, get_or-set_other, length-take-le}
 use lib.Dec.{eqb}
 use lib.Ieee.{Float}
 use borrow.Author.Tests.{eqb-true, eqb-false}
-use Rattle.session.specs.Lists.{pick, keep, used_of, change_if, change_first}
+use Rattle.session.specs.Lists.{used_of, change_if, change_first}
 use Rattle.session.proofs.Walks.{used-small, used-below}
 use Rattle.session.proofs.Relist.{packed-size, take-few}
 use Rattle.player.specs.declared.Player.{Player}
@@ -36,12 +37,12 @@ all_tail x xs a k q = a (suc k) (omega arith)
 all_head : (x : Player) (xs : List Player) → AllOk (x ∷ xs) → PlayerOk x
 all_head x xs a = a 0 (omega arith)
 
-all_keep : (p : Player → Bool) (qs : List Player) → AllOk qs → AllOk (keep p qs)
+all_keep : (p : Player → Bool) (qs : List Player) → AllOk qs → AllOk (filter p qs)
 all_keep p [] a = a
 all_keep p (x ∷ xs) a = go (p x) (all_keep p xs (all_tail x xs a))
   where
-    go : (t : Bool) → AllOk (keep p xs) → AllOk (pick t (x ∷ keep p xs) (keep p xs))
-    go true r = all_cons x (keep p xs) (all_head x xs a) r
+    go : (t : Bool) → AllOk (filter p xs) → AllOk (cond t (x ∷ filter p xs) (filter p xs))
+    go true r = all_cons x (filter p xs) (all_head x xs a) r
     go false r = r
 
 module _ (f : Player → Player) (h : (p : Player) → PlayerOk p → PlayerOk (f p)) where
@@ -53,14 +54,14 @@ module _ (f : Player → Player) (h : (p : Player) → PlayerOk p → PlayerOk (
   all_first p [] a = a
   all_first p (x ∷ xs) a = go (p x) (all_first p xs (all_tail x xs a))
     where
-      go : (t : Bool) → AllOk (change_first p f xs) → AllOk (pick t (f x ∷ xs) (x ∷ change_first p f xs))
+      go : (t : Bool) → AllOk (change_first p f xs) → AllOk (cond t (f x ∷ xs) (x ∷ change_first p f xs))
       go true r = all_cons (f x) xs (h x (all_head x xs a)) (all_tail x xs a)
       go false r = all_cons x (change_first p f xs) (all_head x xs a) r
 
 pub change-ok : (p : Player → Bool) (g : Player → Player) → ((x : Player) → PlayerOk x → PlayerOk (g x)) → (x : Player) → PlayerOk x → PlayerOk (change_if p g x)
 change-ok p g h x ok = go (p x)
   where
-    go : (t : Bool) → PlayerOk (pick t (g x) x)
+    go : (t : Bool) → PlayerOk (cond t (g x) x)
     go true = h x ok
     go false = ok
 
@@ -74,7 +75,7 @@ retuned-ok note bend p h = record { cold = pitched-ok p.cold note bend h.cold; s
 once-ok : (p : Player) → PlayerOk p → PlayerOk (off_once p)
 once-ok p h = go p.hot.offed
   where
-    go : (t : Bool) → PlayerOk (pick t p (turned_off p))
+    go : (t : Bool) → PlayerOk (cond t p (turned_off p))
     go true = h
     go false = off-ok p h
 
@@ -83,11 +84,11 @@ once-ok p h = go p.hot.offed
 pub sounding-few : (ps : Players) → length (sounding ps) ≤ 32
 sounding-few ps = omega (arith, take-few (used_of 32 ps.count) ps.players, used-below 32 ps.count)
 
-pub keep-few : {A : Type 0} (p : A → Bool) (xs : List A) → length (keep p xs) ≤ length xs
+pub keep-few : {A : Type 0} (p : A → Bool) (xs : List A) → length (filter p xs) ≤ length xs
 keep-few p [] = omega arith
 keep-few p (x ∷ xs) = go (p x) (keep-few p xs)
   where
-    go : (t : Bool) → length (keep p xs) ≤ length xs → length (pick t (x ∷ keep p xs) (keep p xs)) ≤ suc (length xs)
+    go : (t : Bool) → length (filter p xs) ≤ length xs → length (cond t (x ∷ filter p xs) (filter p xs)) ≤ suc (length xs)
     go true r = omega arith
     go false r = omega arith
 
@@ -95,7 +96,7 @@ pub first-length : {A : Type 0} (p : A → Bool) (f : A → A) (xs : List A) →
 first-length p f [] = refl
 first-length p f (x ∷ xs) = go (p x) (first-length p f xs)
   where
-    go : (t : Bool) → length (change_first p f xs) ≡ length xs → length (pick t (f x ∷ xs) (x ∷ change_first p f xs)) ≡ suc (length xs)
+    go : (t : Bool) → length (change_first p f xs) ≡ length xs → length (cond t (f x ∷ xs) (x ∷ change_first p f xs)) ≡ suc (length xs)
     go true r = refl
     go false r = ap suc r
 
@@ -146,7 +147,7 @@ module _ (ps : Players) (ok : PlayersOk ps) where
   unfolding reaped
   reaped-ok =
       let stay : Player → Bool = λ p. not (is_over p) in
-      reseat-ok (keep stay (sounding ps)) (omega (arith, keep-few stay (sounding ps), sounding-few ps)) (all_keep stay (sounding ps) sounding-ok)
+      reseat-ok (filter stay (sounding ps)) (omega (arith, keep-few stay (sounding ps), sounding-few ps)) (all_keep stay (sounding ps) sounding-ok)
 
   pub released-all-ok : PlayersOk (released_all ps).players
   unfolding released_all

@@ -8,7 +8,7 @@ use native.Mathlib.Numerals.{add-one}
 use lib.ListN.{length, take, drop, get_or, length-take, drop_of_length-le}
 use lib.Seq.{drop-cons, get_or-take, length-take-le}
 use Rattle.program.specs.Valid.{every}
-use Rattle.program.proofs.Binding.{every-at}
+use Rattle.program.proofs.Checks.{every-at}
 
 -- what is left of the first n from i on
 abbrev pub left_of : {A : Type 0} → (A → Bool) → List A → ℕ → ℕ → Bool

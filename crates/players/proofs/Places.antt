@@ -1,4 +1,6 @@
 -- Loops over the players in use. Assumes nothing.
+use Rattle.std.specs.List.{list_any}
+use Rattle.std.specs.Prelude.{filter}
 use Prim.Native.Nat.{ℕ, ◌+◌, ◌-◌, ◌<◌, ◌≤◌}
 use mathlib.Core.Path.{◌≡◌, refl, sym, ap, subst, ◌∙◌}
 use mathlib.Core.Bool.{Bool, true, false, not, cond, ◌&&◌, ◌||◌}
@@ -10,7 +12,7 @@ use lib.ListN.{length, take, drop, set, get_or, replicate, length-append, length
 use lib.Seq.{append_snoc, get_or-take, get_or-drop, get_or-append-add, take-suc, take_all, set_split, set-get_or, set-append_left}
 use lib.Ieee.{Float, ne}
 use Rattle.interp.specs.Span.{span_for}
-use Rattle.session.specs.Lists.{pick, keep, any, used_of, packed, change_if, change_first}
+use Rattle.session.specs.Lists.{used_of, packed, change_if, change_first}
 use Rattle.session.specs.declared.Slots.{Slots}
 use Rattle.session.proofs.Walks.{on_first, on_first-step, on_first-at, keep-step}
 use Rattle.session.proofs.Packing.{Packed, packed-set, packed_none, packed-skip, packed_keep}
@@ -51,8 +53,8 @@ module _ (f : Player → Player) (ps t : Players) (i : ℕ) (d : Player) (so_far
 -- the walk changes the players that p holds of, by g: b is the answer of its test of the next one
 module _ (p : Player → Bool) (g : Player → Player) (ps t : Players) (i : ℕ) (d : Player) (so_far : t ≡ done_to (change_if p g) i ps) (b : Bool)
     (told : b ≡ p (get_or t.players i d)) where
-  changed : (k : Bool) → b ≡ k → pick k (g (get_or t.players i d)) (get_or t.players i d) ≡ change_if p g (get_or t.players i d)
-  changed k h = ap (λ (x : Bool). pick x (g (get_or t.players i d)) (get_or t.players i d)) (sym h ∙ told)
+  changed : (k : Bool) → b ≡ k → cond k (g (get_or t.players i d)) (get_or t.players i d) ≡ change_if p g (get_or t.players i d)
+  changed k h = ap (λ (x : Bool). cond x (g (get_or t.players i d)) (get_or t.players i d)) (sym h ∙ told)
 
   pub walk-hit : (q : Player) → b ≡ true → q ≡ g (get_or t.players i d) → places_at (set t.players i q) t.count ≡ done_to (change_if p g) (i + 1) ps
   walk-hit q h e = walk_step (change_if p g) ps t i d so_far q (e ∙ changed true h)
@@ -82,7 +84,7 @@ same-pitch p note bend c e h =
         let moved : c ≡ with_step (step_of p.cold note bend) (span_for (step_of p.cold note bend)) p.cold =
         e ∙ ap (λ (t : Bool). cond t (with_step (step_of p.cold note bend) (span_for (step_of p.cold note bend)) p.cold) p.cold) r in
         let k : true ≡ false = sym r ∙ ap (λ (x : Cold). ne x.step p.cold.step) (sym moved) ∙ h in
-        let z : ◌≡◌ {A = ℕ} 0 1 = ap (λ (b : Bool). pick b 0 1) k in
+        let z : ◌≡◌ {A = ℕ} 0 1 = ap (λ (b : Bool). cond b 0 1) k in
         absurd (omega arith)
 
 -- the walk that retunes: c is the next player's part under the new pitch
@@ -97,20 +99,20 @@ module _ (note bend : Float) (ps t : Players) (i : ℕ) (d : Player) (so_far : t
 -- ---- whether a player was ended in its delay
 
 module _ {A : Type 0} (q : A → Bool) where
-  pub any-more : (xs : List A) (y : A) → any q (xs ++ (y ∷ [])) ≡ any q xs || q y
+  pub any-more : (xs : List A) (y : A) → list_any q (xs ++ (y ∷ [])) ≡ list_any q xs || q y
   any-more [] y = go (q y)
     where
-      go : (t : Bool) → pick t true false ≡ t
+      go : (t : Bool) → t || false ≡ t
       go true = refl
       go false = refl
   any-more (x ∷ xs) y = go (q x) (any-more xs y)
     where
-      go : (t : Bool) → any q (xs ++ (y ∷ [])) ≡ any q xs || q y → pick t true (any q (xs ++ (y ∷ []))) ≡ pick t true (any q xs) || q y
+      go : (t : Bool) → list_any q (xs ++ (y ∷ [])) ≡ list_any q xs || q y → t || list_any q (xs ++ (y ∷ [])) ≡ (t || list_any q xs) || q y
       go true r = refl
       go false r = r
 
-  any_step : (xs : List A) (i : ℕ) (d : A) → i < length xs → any q (take (i + 1) xs) ≡ any q (take i xs) || q (get_or xs i d)
-  any_step xs i d h = ap (λ (k : ℕ). any q (take k xs)) (add-one i) ∙ ap (any q) (take-suc xs i d h) ∙ any-more (take i xs) (get_or xs i d)
+  any_step : (xs : List A) (i : ℕ) (d : A) → i < length xs → list_any q (take (i + 1) xs) ≡ list_any q (take i xs) || q (get_or xs i d)
+  any_step xs i d h = ap (λ (k : ℕ). list_any q (take k xs)) (add-one i) ∙ ap (list_any q) (take-suc xs i d h) ∙ any-more (take i xs) (get_or xs i d)
 
 -- it hears the gate in its delay
 abbrev pub ends : Player → Bool
@@ -120,28 +122,28 @@ pub or_no : (k : Bool) → k || false ≡ k
 or_no true = refl
 or_no false = refl
 
-module _ (xs : List Player) (i : ℕ) (d x : Player) (inside : i < length xs) (same : x ≡ get_or xs i d) (k : Bool) (so_far : k ≡ any ends (take i xs)) (b : Bool)
+module _ (xs : List Player) (i : ℕ) (d x : Player) (inside : i < length xs) (same : x ≡ get_or xs i d) (k : Bool) (so_far : k ≡ list_any ends (take i xs)) (b : Bool)
     (told : b ≡ hears_gate x) where
-  next : (h : Bool) → b ≡ h → any ends (take (i + 1) xs) ≡ k || (h && delays x)
+  next : (h : Bool) → b ≡ h → list_any ends (take (i + 1) xs) ≡ k || (h && delays x)
   next h e =
       any_step ends xs i d inside
       ∙ ap (λ (y : Bool). y || ends (get_or xs i d)) (sym so_far)
       ∙ ap (λ (y : Player). k || ends y) (sym same)
       ∙ ap (λ (y : Bool). k || (y && delays x)) (sym told ∙ e)
 
-  pub killed-hit : (w v : Bool) → b ≡ true → w ≡ delays x → v ≡ k || w → v ≡ any ends (take (i + 1) xs)
+  pub killed-hit : (w v : Bool) → b ≡ true → w ≡ delays x → v ≡ k || w → v ≡ list_any ends (take (i + 1) xs)
   killed-hit w v h e f = f ∙ ap (λ (y : Bool). k || y) e ∙ sym (next true h)
 
-  pub killed-miss : b ≡ false → k ≡ any ends (take (i + 1) xs)
+  pub killed-miss : b ≡ false → k ≡ list_any ends (take (i + 1) xs)
   killed-miss h = sym (next false h ∙ or_no k)
 
-pub released-done : (ps t : Players) (i : ℕ) (k : Bool) → PlayersOk ps → t ≡ done_to (change_if hears_gate let_go) i ps → k ≡ any ends (take i ps.players)
+pub released-done : (ps t : Players) (i : ℕ) (k : Bool) → PlayersOk ps → t ≡ done_to (change_if hears_gate let_go) i ps → k ≡ list_any ends (take i ps.players)
     → i ≤ ps.count → ps.count ≤ i → record { players = t; killed = k } ≡ released_all ps
 unfolding released_all
 released-done ps t i k ok e f p q =
     ap (λ (x : Players). record { players = x; killed = k }) (walk-done (change_if hears_gate let_go) ps t i ok e p q)
     ∙ ap (λ (x : Bool). record { players = reseat (map (change_if hears_gate let_go) (sounding ps)) ps; killed = x })
-    (f ∙ ap (λ (n : ℕ). any ends (take n ps.players)) (le_antisymm p q ∙ sym (in_use ps ok)))
+    (f ∙ ap (λ (n : ℕ). list_any ends (take n ps.players)) (le_antisymm p q ∙ sym (in_use ps ok)))
 
 -- ---- a list of slots that grows
 
@@ -207,7 +209,7 @@ packed-at ks xs i d h =
 -- the state of the loop over xs: those of the first i that go on stand in front, j of them, and the slots of the others are listed
 pub record Reaping (xs ys : List Player) (ks : List ℕ) (i j k : ℕ) : Type 0 where
   pub front : Packed goes_on xs ys i j
-  pub listed : Listed (slot_numbers (keep is_over (take i xs))) ks k
+  pub listed : Listed (slot_numbers (filter is_over (take i xs))) ks k
   pub fewer : k ≤ i
 
 pub reaping-none : (xs : List Player) → Reaping xs xs (replicate 32 0) 0 0 0
@@ -218,19 +220,19 @@ module _ (xs ys : List Player) (ks : List ℕ) (i j k : ℕ) (d : Player) (h : R
   same : get_or ys i d ≡ get_or xs i d
   same =
       ap (λ (l : List Player). get_or l i d) h.front.so_far
-      ∙ packed-at (keep goes_on (take i xs)) xs i d (omega (arith, h.front.counted, h.front.behind))
+      ∙ packed-at (filter goes_on (take i xs)) xs i d (omega (arith, h.front.counted, h.front.behind))
 
-  over : (t : Bool) → b ≡ t → slot_numbers (keep is_over (take (i + 1) xs)) ≡ slot_numbers (keep is_over (take i xs)) ++ slot_numbers (pick t (get_or ys i d ∷ []) [])
+  over : (t : Bool) → b ≡ t → slot_numbers (filter is_over (take (i + 1) xs)) ≡ slot_numbers (filter is_over (take i xs)) ++ slot_numbers (cond t (get_or ys i d ∷ []) [])
   over t e =
-      ap slot_numbers (keep-step is_over xs i d inside ∙ ap (λ (y : Player). keep is_over (take i xs) ++ pick (is_over y) (y ∷ []) []) (sym same))
-      ∙ slots-append (keep is_over (take i xs)) (pick (is_over (get_or ys i d)) (get_or ys i d ∷ []) [])
-      ∙ ap (λ (u : Bool). slot_numbers (keep is_over (take i xs)) ++ slot_numbers (pick u (get_or ys i d ∷ []) [])) (sym told ∙ e)
+      ap slot_numbers (keep-step is_over xs i d inside ∙ ap (λ (y : Player). filter is_over (take i xs) ++ cond (is_over y) (y ∷ []) []) (sym same))
+      ∙ slots-append (filter is_over (take i xs)) (cond (is_over (get_or ys i d)) (get_or ys i d ∷ []) [])
+      ∙ ap (λ (u : Bool). slot_numbers (filter is_over (take i xs)) ++ slot_numbers (cond u (get_or ys i d ∷ []) [])) (sym told ∙ e)
 
   -- the player leaves
   pub reaping-out : b ≡ true → i < 32 → Reaping xs ys (set ks k (get_or ys i d).slot) (i + 1) j (k + 1)
   reaping-out e few = record {
     front = packed-skip goes_on xs ys i j d h.front inside (ap not (sym told ∙ e));
-    listed = listed_more (slot_numbers (keep is_over (take i xs))) ks k h.listed (get_or ys i d).slot _ (omega (arith, h.fewer)) (over true e);
+    listed = listed_more (slot_numbers (filter is_over (take i xs))) ks k h.listed (get_or ys i d).slot _ (omega (arith, h.fewer)) (over true e);
     fewer = omega (arith, h.fewer);
   }
 
@@ -238,7 +240,7 @@ module _ (xs ys : List Player) (ks : List ℕ) (i j k : ℕ) (d : Player) (h : R
   pub reaping-on : b ≡ false → (zs : List Player) → zs ≡ set ys j (get_or ys i d) → Reaping xs zs ks (i + 1) (j + 1) k
   reaping-on e zs f = record {
     front = subst (λ (l : List Player). Packed goes_on xs l (i + 1) (j + 1)) (sym f) (packed_keep goes_on xs ys i j d h.front inside (ap not (sym told ∙ e)));
-    listed = listed_same (slot_numbers (keep is_over (take i xs))) ks k h.listed _ (over false e ∙ append-nil (slot_numbers (keep is_over (take i xs))));
+    listed = listed_same (slot_numbers (filter is_over (take i xs))) ks k h.listed _ (over false e ∙ append-nil (slot_numbers (filter is_over (take i xs))));
     fewer = omega (arith, h.fewer);
   }
 
@@ -253,11 +255,11 @@ reaped-done ps ys ks i j k ok h p q =
     let e : i ≡ used_of 32 ps.count = le_antisymm p q ∙ sym (in_use ps ok) in
     ap (λ (x : Players). record { players = x; gone = record { slots = ks; count = k } })
     (ap (λ (y : List Player). places_at y j) h.front.so_far
-    ∙ ap (λ (n : ℕ). places_at (packed (keep goes_on (take i ps.players)) ps.players) n) h.front.counted
-    ∙ ap (λ (n : ℕ). reseat (keep goes_on (take n ps.players)) ps) e)
-    ∙ ap (λ (x : Slots). record { players = reseat (keep goes_on (sounding ps)) ps; gone = x })
-    (listed-done (slot_numbers (keep is_over (take i ps.players))) ks k h.listed (slot_numbers (keep is_over (sounding ps)))
-    (ap (λ (n : ℕ). slot_numbers (keep is_over (take n ps.players))) e) (omega (arith, h.fewer, ok.few)))
+    ∙ ap (λ (n : ℕ). places_at (packed (filter goes_on (take i ps.players)) ps.players) n) h.front.counted
+    ∙ ap (λ (n : ℕ). reseat (filter goes_on (take n ps.players)) ps) e)
+    ∙ ap (λ (x : Slots). record { players = reseat (filter goes_on (sounding ps)) ps; gone = x })
+    (listed-done (slot_numbers (filter is_over (take i ps.players))) ks k h.listed (slot_numbers (filter is_over (sounding ps)))
+    (ap (λ (n : ℕ). slot_numbers (filter is_over (take n ps.players))) e) (omega (arith, h.fewer, ok.few)))
 
 -- ---- the first player of a slot
 
@@ -290,19 +292,19 @@ module _ (k : ℕ) (ps : Players) (ok : PlayersOk ps) (i : ℕ) (d : Player) (h 
   here = rest-step ps.players (used_of 32 ps.count) (omega (arith, in_use ps ok, ok.few, ok.size)) i d (omega (arith, in_use ps ok))
 
   asked_here : (q : Player → Bool) (t : Bool) → in_slot k (get_or ps.players i d) ≡ t
-      → first_is (in_slot k) q (sounding ps) ≡ pick t (q (get_or ps.players i d)) (first_is (in_slot k) q (drop (i + 1) (sounding ps)))
+      → first_is (in_slot k) q (sounding ps) ≡ cond t (q (get_or ps.players i d)) (first_is (in_slot k) q (drop (i + 1) (sounding ps)))
   asked_here q t e =
       h.asked q ∙ ap (first_is (in_slot k) q) here
-      ∙ ap (λ (b : Bool). pick b (q (get_or ps.players i d)) (first_is (in_slot k) q (drop (i + 1) (sounding ps)))) e
+      ∙ ap (λ (b : Bool). cond b (q (get_or ps.players i d)) (first_is (in_slot k) q (drop (i + 1) (sounding ps)))) e
 
   changed-here : (t : Bool) → in_slot k (get_or ps.players i d) ≡ t
       → change_first (in_slot k) off_once (sounding ps)
       ≡ take i (sounding ps)
-      ++ pick t (off_once (get_or ps.players i d) ∷ drop (i + 1) (sounding ps))
+      ++ cond t (off_once (get_or ps.players i d) ∷ drop (i + 1) (sounding ps))
       (get_or ps.players i d ∷ change_first (in_slot k) off_once (drop (i + 1) (sounding ps)))
   changed-here t e =
       h.changed ∙ ap (λ (l : List Player). take i (sounding ps) ++ change_first (in_slot k) off_once l) here
-      ∙ ap (λ (b : Bool). take i (sounding ps) ++ pick b (off_once (get_or ps.players i d) ∷ drop (i + 1) (sounding ps))
+      ∙ ap (λ (b : Bool). take i (sounding ps) ++ cond b (off_once (get_or ps.players i d) ∷ drop (i + 1) (sounding ps))
       (get_or ps.players i d ∷ change_first (in_slot k) off_once (drop (i + 1) (sounding ps)))) e
 
   at_i : get_or (sounding ps) i d ≡ get_or ps.players i d
@@ -348,7 +350,7 @@ module _ (k : ℕ) (ps : Players) (ok : PlayersOk ps) (i : ℕ) (d : Player) (h 
         (sym off ∙ sym (asked_here (λ p. p.hot.offed) true hit))
         (ap (λ (b : Bool). not b && x.on_note) (sym off) ∙ sym (asked_here (λ p. not p.hot.offed && p.on_note) true hit))
         (ap (λ (l : List Player). places_at l ps.count) (sym (set-get_or ps.players i d))
-        ∙ sym (changed-one x (ap (λ (b : Bool). pick b x (turned_off x)) (sym off))))
+        ∙ sym (changed-one x (ap (λ (b : Bool). cond b x (turned_off x)) (sym off))))
 
     -- it is turned off
     pub met-on : (q : Player) → (get_or ps.players i d).hot.offed ≡ false → q ≡ turned_off (get_or ps.players i d)
@@ -358,7 +360,7 @@ module _ (k : ℕ) (ps : Players) (ok : PlayersOk ps) (i : ℕ) (d : Player) (h 
         answers (places_at (set ps.players i q) ps.count) _ false x.on_note refl
         (sym on ∙ sym (asked_here (λ p. p.hot.offed) true hit))
         (ap (λ (b : Bool). not b && x.on_note) (sym on) ∙ sym (asked_here (λ p. not p.hot.offed && p.on_note) true hit))
-        (sym (changed-one q (e ∙ ap (λ (b : Bool). pick b x (turned_off x)) (sym on))))
+        (sym (changed-one q (e ∙ ap (λ (b : Bool). cond b x (turned_off x)) (sym on))))
 
 -- no player is in the slot
 pub unmet-done : (k : ℕ) (ps : Players) (i : ℕ) → PlayersOk ps → Unmet k (sounding ps) i → ps.count ≤ i

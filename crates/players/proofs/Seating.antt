@@ -1,4 +1,5 @@
 -- What the operations do to the list of players in use: the laws that crates above cite. Assumes nothing.
+use Rattle.std.specs.Prelude.{cond, filter}
 use Prim.Native.Nat.{ℕ, ◌+◌, ◌<◌, ◌≤◌}
 use mathlib.Core.Path.{◌≡◌, refl, sym, ap, ◌∙◌}
 use mathlib.Core.Bool.{Bool, true, false, not}
@@ -8,7 +9,7 @@ use native.Mathlib.Numerals.{add-one}
 use lib.ListN.{length, take, drop, set, replicate, length-map}
 use lib.Seq.{take-append_seam, take-suc-set, take_all}
 use lib.Ieee.{Float}
-use Rattle.session.specs.Lists.{pick, keep, used_of, packed, change_if, change_first}
+use Rattle.session.specs.Lists.{used_of, packed, change_if, change_first}
 use Rattle.session.specs.State.{slot_list}
 use Rattle.session.proofs.Walks.{used-small}
 use Rattle.player.specs.declared.Player.{Player}
@@ -54,14 +55,14 @@ module _ (f : Player → Player) (keeps : (p : Player) → (f p).slot ≡ p.slot
   slots-first p (x ∷ xs) = go (p x) (slots-first p xs)
     where
       go : (t : Bool) → slot_numbers (change_first p f xs) ≡ slot_numbers xs
-          → slot_numbers (pick t (f x ∷ xs) (x ∷ change_first p f xs)) ≡ x.slot ∷ slot_numbers xs
+          → slot_numbers (cond t (f x ∷ xs) (x ∷ change_first p f xs)) ≡ x.slot ∷ slot_numbers xs
       go true r = ap (λ (n : ℕ). n ∷ slot_numbers xs) (keeps x)
       go false r = ap (λ (l : List ℕ). x.slot ∷ l) r
 
 change-slot : (p : Player → Bool) (g : Player → Player) → ((x : Player) → (g x).slot ≡ x.slot) → (x : Player) → (change_if p g x).slot ≡ x.slot
 change-slot p g h x = go (p x)
   where
-    go : (t : Bool) → (pick t (g x) x).slot ≡ x.slot
+    go : (t : Bool) → (cond t (g x) x).slot ≡ x.slot
     go true = h x
     go false = refl
 
@@ -72,7 +73,7 @@ off-slot x = refl
 once-slot : (x : Player) → (off_once x).slot ≡ x.slot
 once-slot x = go x.hot.offed
   where
-    go : (t : Bool) → (pick t x (turned_off x)).slot ≡ x.slot
+    go : (t : Bool) → (cond t x (turned_off x)).slot ≡ x.slot
     go true = refl
     go false = off-slot x
 
@@ -117,13 +118,13 @@ module _ (ps : Players) where
 
   -- ---- the players that are over leave
 
-  pub sounding-reaped : sounding (reaped ps).players ≡ keep (λ p. not (is_over p)) (sounding ps)
+  pub sounding-reaped : sounding (reaped ps).players ≡ filter (λ p. not (is_over p)) (sounding ps)
   unfolding reaped
   sounding-reaped =
-      sounding-reseat (keep (λ p. not (is_over p)) (sounding ps)) ps (omega (arith, keep-few (λ (p : Player). not (is_over p)) (sounding ps), sounding-few ps))
+      sounding-reseat (filter (λ p. not (is_over p)) (sounding ps)) ps (omega (arith, keep-few (λ (p : Player). not (is_over p)) (sounding ps), sounding-few ps))
 
-  pub slots-reaped : slot_list (reaped ps).gone ≡ slot_numbers (keep is_over (sounding ps))
+  pub slots-reaped : slot_list (reaped ps).gone ≡ slot_numbers (filter is_over (sounding ps))
   unfolding reaped
   slots-reaped =
-      slots-from (slot_numbers (keep is_over (sounding ps)))
-      (omega (arith, length-map (keep is_over (sounding ps)) (λ (p : Player). p.slot), keep-few is_over (sounding ps), sounding-few ps))
+      slots-from (slot_numbers (filter is_over (sounding ps)))
+      (omega (arith, length-map (filter is_over (sounding ps)) (λ (p : Player). p.slot), keep-few is_over (sounding ps), sounding-few ps))

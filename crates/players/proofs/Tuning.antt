@@ -1,4 +1,5 @@
 -- Tuned players: each by itself, and all of them. Assumes nothing.
+use Rattle.std.specs.Prelude.{cond}
 use Prim.Native.Nat.{ℕ}
 use mathlib.Core.Path.{◌≡◌, refl, sym, ap, subst, ◌∙◌}
 use mathlib.Core.Bool.{Bool, true, false}
@@ -7,7 +8,6 @@ use native.Mathlib.Omega.{arith}
 use lib.ListN.{length, take, drop, length-map, take-append-drop}
 use lib.Seq.{drop_at}
 use lib.Ieee.{ne}
-use Rattle.session.specs.Lists.{pick}
 use Rattle.player.specs.declared.Cold.{Cold}
 use Rattle.player.specs.declared.Player.{Player}
 use Rattle.player.specs.Bounds.{PlayerOk}
@@ -23,9 +23,9 @@ use Rattle.players.proofs.Seating.{sounding-reseat}
 -- ---- one player
 
 module _ (x : Tune) (p : Player) where
-  tuned-as : (t : Bool) → x.on ≡ t → tuned_one x p ≡ pick t (retuned x.note_f x.bend p) p
+  tuned-as : (t : Bool) → x.on ≡ t → tuned_one x p ≡ cond t (retuned x.note_f x.bend p) p
   unfolding tuned_one
-  tuned-as t e = ap (λ (k : Bool). pick k (retuned x.note_f x.bend p) p) e
+  tuned-as t e = ap (λ (k : Bool). cond k (retuned x.note_f x.bend p) p) e
 
   pub tuned-slot : (tuned_one x p).slot ≡ p.slot
   tuned-slot = by-case x.on refl
@@ -78,7 +78,7 @@ module _ (x : Tune) (ps : Players) (ok : PlayersOk ps) where
   unfolding tuned_one tuned_all retuned_all
   all-tuned = by-case x.on
     where
-      by-case : (t : Bool) → pick t (retuned_all x.note_f x.bend ps) ps ≡ reseat (map (λ (p : Player). pick t (retuned x.note_f x.bend p) p) (sounding ps)) ps
+      by-case : (t : Bool) → cond t (retuned_all x.note_f x.bend ps) ps ≡ reseat (map (λ (p : Player). cond t (retuned x.note_f x.bend p) p) (sounding ps)) ps
       by-case true = refl
       by-case false = sym (ap (λ (l : List Player). reseat l ps) (map-id (sounding ps)) ∙ reseat-same)
 

@@ -1,4 +1,5 @@
 -- What a falling gate and an off mark do to a voice's players. Definitions only.
+use Rattle.std.specs.List.{list_any}
 use Rattle.std.specs.Prelude.{ℕ, Bool, true, false, not, ◌&&◌, cond, List, [], ◌∷◌, pos, eqb, Float}
 use Rattle.std.specs.Int.Signed.{lt_z}
 use Rattle.envelope.specs.declared.Env.{Env}
@@ -11,7 +12,7 @@ use Rattle.program.specs.declared.region.OffMode.TheVariants.{Fast, Normal, Time
 use Rattle.player.specs.declared.Cold.{Cold}
 use Rattle.player.specs.declared.Player.{Player}
 use Rattle.segments.specs.Segment.{off_fast}
-use Rattle.session.specs.Lists.{pick, any, change_where, change_first}
+use Rattle.session.specs.Lists.{change_where, change_first}
 use Rattle.players.specs.declared.Players.{Players}
 use Rattle.players.specs.declared.Released.{Released}
 use Rattle.players.specs.declared.Offed.{Offed}
@@ -54,7 +55,7 @@ let_go p = with_envelope (ended_env p.hot.env) p.hot.offed p
 unfoldable pub released_all : Players → Released
 released_all ps = record {
   players = reseat (change_where hears_gate let_go (sounding ps)) ps;
-  killed = any (λ p. hears_gate p && delays p) (sounding ps);
+  killed = list_any (λ p. hears_gate p && delays p) (sounding ps);
 }
 
 -- the release that its region's off_mode gives
@@ -72,12 +73,12 @@ in_slot k p = eqb p.slot k
 
 -- on a player that is off already nothing acts
 abbrev pub off_once : Player → Player
-off_once p = pick p.hot.offed p (turned_off p)
+off_once p = cond p.hot.offed p (turned_off p)
 
 -- the first of the players that p holds of, asked whether q holds of it
 abbrev pub first_is : (Player → Bool) → (Player → Bool) → List Player → Bool
 first_is p q [] = false
-first_is p q (x ∷ xs) = pick (p x) (q x) (first_is p q xs)
+first_is p q (x ∷ xs) = cond (p x) (q x) (first_is p q xs)
 
 -- The off mark of slot k acts on the first player in that slot: the players; whether that one was off already; and whether it was not
 -- and belongs to a note-on

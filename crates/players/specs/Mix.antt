@@ -6,7 +6,6 @@ use Rattle.program.specs.Sample.{sample_at}
 use Rattle.player.specs.declared.Player.{Player}
 use Rattle.segments.specs.Source.{Lent}
 use Rattle.segments.specs.Segment.{played_by}
-use Rattle.session.specs.Lists.{pick}
 use Rattle.session.specs.declared.Slots.{Slots}
 use Rattle.players.specs.declared.Players.{Players}
 use Rattle.players.specs.declared.Mixed.{Mixed}
@@ -46,7 +45,7 @@ slot_pushed k e = record { slots = set e.slots e.count k; count = e.count + 1 }
 
 -- where the data of the player in this slot ended
 unfoldable pub noted : Bool → ℕ → Slots → Slots
-noted t k e = pick t (slot_pushed k e) e
+noted t k e = cond t (slot_pushed k e) e
 
 -- the players that have played so far, the slots of those whose data ended, and both outputs
 pub record Band : Type 0 where
@@ -61,7 +60,7 @@ joined_by x b p =
     let y = played_by (lent_to x p) p b.left b.right in
     record {
       players = b.players ++ (y.played.player ∷ []);
-      ended = pick y.played.ended (b.ended ++ (p.slot ∷ [])) b.ended;
+      ended = cond y.played.ended (b.ended ++ (p.slot ∷ [])) b.ended;
       left = y.left;
       right = y.right;
     }
@@ -83,7 +82,7 @@ played_all x ps l r = mixture ps (played_band x (sounding ps) l r)
 
 -- a player, and all of them, tuned as a block has it
 unfoldable pub tuned_one : Tune → Player → Player
-tuned_one x p = pick x.on (retuned x.note_f x.bend p) p
+tuned_one x p = cond x.on (retuned x.note_f x.bend p) p
 
 unfoldable pub tuned_all : Tune → Players → Players
-tuned_all x ps = pick x.on (retuned_all x.note_f x.bend ps) ps
+tuned_all x ps = cond x.on (retuned_all x.note_f x.bend ps) ps

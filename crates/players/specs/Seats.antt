@@ -1,5 +1,5 @@
 -- A voice's players: 32 places, of which the first ones are in use, in the order of their starts. Definitions only.
-use Rattle.std.specs.Prelude.{ℕ, ◌+◌, ◌≤◌, ◌<◌, ◌≡◌, Bool, true, false, not, List, map, length, take, set, get_or, replicate, pos, Float}
+use Rattle.std.specs.Prelude.{ℕ, ◌+◌, ◌≤◌, ◌<◌, ◌≡◌, Bool, true, false, not, List, map, length, take, set, get_or, replicate, pos, Float, None, filter}
 use Rattle.exact.specs.Single.{f0}
 use Rattle.envelope.specs.declared.EgState.TheVariants.{Done}
 use Rattle.envelope.specs.declared.Env.{Env}
@@ -9,10 +9,9 @@ use Rattle.interp.specs.Position.{first}
 use Rattle.interp.specs.declared.Interp.TheVariants.{Linear}
 use Rattle.program.specs.declared.region.LoopMode.TheVariants.{NoLoop}
 use Rattle.program.specs.declared.region.OffMode.TheVariants.{Fast}
-use Rattle.session.specs.Lists.{keep, used_of, packed}
+use Rattle.session.specs.Lists.{used_of, packed}
 use Rattle.session.specs.declared.Slots.{Slots}
 use Rattle.player.specs.declared.Cold.{Cold}
-use Rattle.player.specs.declared.MaybeLoop.TheVariants.{Absent}
 use Rattle.player.specs.declared.Player.{Player}
 use Rattle.player.specs.Bounds.{PlayerOk}
 use Rattle.player.specs.Pitch.{pitched}
@@ -51,7 +50,7 @@ no_cold = record {
   interp = Linear;
   stereo = false;
   silent = true;
-  lp = Absent;
+  lp = None;
   loop_mode = NoLoop;
   n_filters = 0;
   gain = f0;
@@ -75,7 +74,7 @@ unfoldable pub no_player : Player
 no_player = record {
   hot = record { env = no_env; pos = first; data_delay = pos 0; data_ended = false; offed = false };
   cold = no_cold;
-  slots = replicate 6 (record { shape = Off });
+  slots = replicate 6 Off;
   states = replicate 72 f0;
   slot = 0;
   region = 0;
@@ -130,6 +129,6 @@ is_over p = is_done p.hot.env.state
 -- the players whose envelope is done are gone; the others keep their order. Beside them the slots of those that are gone
 unfoldable pub reaped : Players → Reaped
 reaped ps = record {
-  players = reseat (keep (λ p. not (is_over p)) (sounding ps)) ps;
-  gone = slots_from (slot_numbers (keep is_over (sounding ps)));
+  players = reseat (filter (λ p. not (is_over p)) (sounding ps)) ps;
+  gone = slots_from (slot_numbers (filter is_over (sounding ps)));
 }

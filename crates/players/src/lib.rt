@@ -5,16 +5,17 @@ pub mod gate;
 pub mod mix;
 
 ghost use Rattle.std.specs.Prelude.{◌≡◌, ◌<◌};
-ghost use Rattle.session.specs.Lists.{any, used_of};
+ghost use Rattle.session.specs.Lists.{used_of};
+ghost use Rattle.std.specs.List.{list_any};
 ghost use Rattle.player.specs.Bounds.{PlayerOk};
 ghost use Rattle.players.specs.Seats.{sounding, PlayersOk, no_env, no_cold, no_player, no_players, seated, slots_from, slot_numbers, with_cold, retuned_all, is_over, reaped};
 
 use envelope::{EgState, Env};
-use filter::{FilterShape, FilterSlot};
+use filter::FilterShape;
 use interp::Interp;
 use interp::sinc::SincSpan;
 use player::pitch::set_pitch;
-use player::{Cold, Hot, MaybeLoop, Player};
+use player::{Cold, Hot, Player};
 use program::region::{LoopMode, OffMode};
 use session::Slots;
 
@@ -84,7 +85,7 @@ fn no_cold() -> Cold
         interp: Interp::Linear,
         stereo: false,
         silent: true,
-        lp: MaybeLoop::Absent,
+        lp: None,
         loop_mode: LoopMode::NoLoop,
         n_filters: 0,
         gain: 0.0,
@@ -116,10 +117,7 @@ fn no_player() -> Player
         data_ended: false,
         offed: false,
     };
-    let none = FilterSlot {
-        shape: FilterShape::Off,
-    };
-    let slots = [none; 6];
+    let slots = [FilterShape::Off; 6];
     let states = [0.0f32; 72];
     Player {
         hot,
@@ -212,7 +210,7 @@ fn is_over(p: Player) -> bool
 
 // Whether some player's envelope is done.
 pub fn any_over(ps: Players) -> bool
-    ensures { result ≡ any is_over (sounding ps) }
+    ensures { result ≡ list_any is_over (sounding ps) }
 {
     let n = used(ps.count);
     let mut i: usize = 0;

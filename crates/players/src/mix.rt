@@ -2,7 +2,7 @@
 ghost use Rattle.std.specs.Prelude.{◌≡◌, ◌<◌, min, length};
 ghost use Rattle.player.specs.Bounds.{PlayerOk};
 ghost use Rattle.segments.specs.Segment.{played_by};
-ghost use Rattle.session.specs.Lists.{any};
+ghost use Rattle.std.specs.List.{list_any};
 ghost use Rattle.players.specs.Mix.{parts_of, lent_to, noted, tuned_one, tuned_all, played_all};
 ghost use Rattle.players.specs.Seats.{sounding, is_over, PlayersOk};
 
@@ -148,7 +148,7 @@ pub fn sound_all(
     right: &mut [f32],
 ) -> Sounded
     requires { PlayersOk ps × (length table.now ≡ 8194) × (length right.old ≡ length left.old) }
-    ensures { ((record { mixed = record { players = result.players; ended = result.ended }; left = left.new; right = right.new }) ≡ played_all (record { samples = samples.entry.now; frames = frames.now; table = table.now }) (tuned_all x ps) left.old right.old) × (result.over ≡ any is_over (sounding result.players)) × PlayersOk result.players }
+    ensures { ((record { mixed = record { players = result.players; ended = result.ended }; left = left.new; right = right.new }) ≡ played_all (record { samples = samples.entry.now; frames = frames.now; table = table.now }) (tuned_all x ps) left.old right.old) × (result.over ≡ list_any is_over (sounding result.players)) × PlayersOk result.players }
 {
     let n = ps.count;
     let mut t = ps;

@@ -3,8 +3,9 @@ use Prim.Native.Nat.{ℕ, zero, suc, ◌+◌, ◌*◌, ◌<◌, ◌≤◌}
 use mathlib.Core.Path.{◌≡◌, refl, sym, ap, ◌∙◌}
 use mathlib.Core.Bool.{Bool, true, false, cond, ◌&&◌}
 use mathlib.Core.List.{List, [], ◌∷◌}
-use mathlib.Core.Logic.{◌⊎◌, inl, inr}
-use native.Mathlib.Nat.{eq-or-lt_of_le, zero-add}
+use Rattle.std.proofs.Common.{Option, None, Some}
+use Rattle.std.specs.List.{list_all, range_with_len}
+use Rattle.std.specs.Option.{option_map_or}
 use native.Mathlib.Omega.{arith}
 use lib.ListN.{length, get_or}
 use lib.Dec.{eqb}
@@ -14,31 +15,14 @@ use Rattle.program.specs.declared.bind.BoundProgram.{BoundProgram}
 use Rattle.program.specs.Region.{words_of}
 use Rattle.program.specs.Valid.{every, all_finite, valid_region, CountsIn}
 use Rattle.program.specs.Sample.{sample_at, shape_tests, sample_tests}
-use Rattle.program.specs.Bind.{bound, refused, region_count, sample_count, first_bad, counts_in, counts_ok, region_in, sample_in, shape_in, bad_region, bad_sample, table_ok, bound_of, binding, program_tests, program_ok}
-use Rattle.program.proofs.Finite.{and-true}
-use Rattle.program.proofs.Checks.{after, final}
-use Rattle.program.proofs.Binding.{every-at, every-index, counts-known, few-parts}
+use Rattle.program.specs.Bind.{bound, refused, region_count, sample_count, counts_in, counts_ok, region_in, sample_in, shape_in, bad_region, bad_sample, table_ok, bound_of, binding, program_tests, program_ok}
+use Rattle.program.proofs.Checks.{and-true, after, final, every-at}
+use Rattle.program.proofs.Binding.{every-index, counts-known, few-parts, none-found}
 
--- a search that goes to the end found every number good
-pub all-good : (p : ℕ → Bool) (i k j : ℕ) → first_bad p i k ≡ i + k → i ≤ j → j < i + k → p j ≡ true
-unfolding first_bad
-all-good p i zero j e lo hi = absurd (omega arith)
-all-good p i (suc k) j e lo hi = go (p i) refl e (λ f l. all-good p (i + 1) k j f l (omega arith)) (eq-or-lt_of_le lo) where
-  go : (t : Bool) → p i ≡ t → cond t (first_bad p (i + 1) k) i ≡ i + suc k → (first_bad p (i + 1) k ≡ i + 1 + k → i + 1 ≤ j → p j ≡ true)
-      → (i ≡ j) ⊎ (i < j) → p j ≡ true
-  go true q f later (inl s) = ap p (sym s) ∙ q
-  go true q f later (inr l) = later (omega arith) (omega arith)
-  go false q f later s = absurd (omega arith)
-
-pub good-search : (p : ℕ → Bool) (i k : ℕ) → ((j : ℕ) → i ≤ j → j < i + k → p j ≡ true) → first_bad p i k ≡ i + k
-unfolding first_bad
-good-search p i zero h = omega arith
-good-search p i (suc k) h =
-    ap (λ t. cond t (first_bad p (i + 1) k) i) (h i (omega arith) (omega arith))
-    ∙ good-search p (i + 1) k (λ j lo hi. h j (omega arith) (omega arith)) ∙ (let e : i + 1 + k ≡ i + suc k = omega arith in e)
-
-whole : (p : ℕ → Bool) (n : ℕ) → eqb (first_bad p 0 n) n ≡ true → first_bad p 0 n ≡ 0 + n
-whole p n e = eqb-true (first_bad p 0 n) n e ∙ sym (zero-add n)
+-- p holds of k numbers from i on where it holds of each
+pub each-index : (p : ℕ → Bool) (i k : ℕ) → ((j : ℕ) → i ≤ j → j < i + k → p j ≡ true) → list_all p (range_with_len i k) ≡ true
+each-index p i zero h = refl
+each-index p i (suc k) h = ap (λ t. t && list_all p (range_with_len (i + 1) k)) (h i (omega arith) (omega arith)) ∙ each-index p (i + 1) k (λ j lo hi. h j (omega arith) (omega arith))
 
 final-two : (x y : Bool) {r : Bool} → r ≡ (x && y) → r ≡ every (x ∷ y ∷ [])
 final-two x y e = e ∙ ap (λ t. x && t) (sym (and-true y))
@@ -47,37 +31,39 @@ clash : {n : ℕ} {vs : List ℕ} {b : BoundProgram} → refused n vs ≡ bound 
 clash e = let z : ◌≡◌ {A = ℕ} 0 1 = cc in omega arith
 
 -- a program is bound only where all four tests pass
-module _ (b' b : BoundProgram) (r1 r2 r3 r4 : List ℕ) where
-  pub record Passed (a c d e : Bool) : Type 0 where
+module _ (b' b : BoundProgram) (r1 r4 : List ℕ) where
+  pub record Passed (a : Bool) (i j : Option ℕ) (e : Bool) : Type 0 where
     pub first : a ≡ true
-    pub second : c ≡ true
-    pub third : d ≡ true
+    pub second : i ≡ None
+    pub third : j ≡ None
     pub fourth : e ≡ true
     pub made : b' ≡ b
 
-  passed : (a c d e : Bool) → cond a (cond c (cond d (cond e (bound b') (refused 4 r4)) (refused 3 r3)) (refused 2 r2)) (refused 1 r1) ≡ bound b → Passed a c d e
-  passed true true true true q = record { first = refl; second = refl; third = refl; fourth = refl; made = cc }
-  passed true true true false q = absurd (clash q)
-  passed true true false e q = absurd (clash q)
-  passed true false d e q = absurd (clash q)
-  passed false c d e q = absurd (clash q)
+  passed : (a : Bool) (i j : Option ℕ) (e : Bool)
+      → cond a (option_map_or (λ v. refused 2 (v ∷ [])) i (option_map_or (λ v. refused 3 (v ∷ [])) j (cond e (bound b') (refused 4 r4)))) (refused 1 r1) ≡ bound b
+      → Passed a i j e
+  passed true None None true q = record { first = refl; second = refl; third = refl; fourth = refl; made = cc }
+  passed true None None false q = absurd (clash q)
+  passed true None (Some j) e q = absurd (clash q)
+  passed true (Some i) j e q = absurd (clash q)
+  passed false i j e q = absurd (clash q)
 
 module _ (ws ss : List ℕ) (fs tb : List Float) (b : BoundProgram) (done : binding ws ss fs tb ≡ bound b) where
-  known : Passed (bound_of ws ss fs) b [] (bad_region ws ss ∷ []) (bad_sample ss fs ∷ []) [] (counts_ok ws ss) (eqb (bad_region ws ss) (region_count ws)) (eqb (bad_sample ss fs) (sample_count ss)) (table_ok tb)
+  known : Passed (bound_of ws ss fs) b [] [] (counts_ok ws ss) (bad_region ws ss) (bad_sample ss fs) (table_ok tb)
   unfolding binding
-  known = passed (bound_of ws ss fs) b [] (bad_region ws ss ∷ []) (bad_sample ss fs ∷ []) [] _ _ _ _ done
+  known = passed (bound_of ws ss fs) b [] [] _ _ _ _ done
 
   pub table-length : length tb ≡ 8194
   unfolding table_ok
   table-length = eqb-true (length tb) 8194 (every-at (eqb (length tb) 8194 ∷ all_finite tb ∷ []) 0 (sym (final-two (eqb (length tb) 8194) (all_finite tb) (sym known.fourth))))
 
-  shapes : eqb (first_bad (shape_in ss (length fs)) 0 (sample_count ss)) (sample_count ss) ≡ true
+  regions : list_all (region_in ws (sample_count ss)) (range_with_len 0 (region_count ws)) ≡ true
+  regions = none-found (region_in ws (sample_count ss)) _ known.second
+
+  shapes : list_all (shape_in ss (length fs)) (range_with_len 0 (sample_count ss)) ≡ true
   shapes =
-      let all = whole (sample_in ss fs) (sample_count ss) known.third in
-      let good : first_bad (shape_in ss (length fs)) 0 (sample_count ss) ≡ 0 + sample_count ss =
-      good-search (shape_in ss (length fs)) 0 (sample_count ss)
-      (λ j lo hi. every-at (sample_tests fs (sample_at ss j)) 0 (all-good (sample_in ss fs) 0 (sample_count ss) j all lo hi)) in
-      eq-eqb _ _ (good ∙ zero-add (sample_count ss))
+      each-index (shape_in ss (length fs)) 0 (sample_count ss)
+      (λ j lo hi. every-at (sample_tests fs (sample_at ss j)) 0 (every-index (sample_in ss fs) 0 (sample_count ss) j (none-found (sample_in ss fs) _ known.third) lo hi))
 
   -- a bound program passes the block's test with what it was bound to
   pub bound-passes : program_ok b ws ss (length fs) (length tb) ≡ true
@@ -85,7 +71,7 @@ module _ (ws ss : List ℕ) (fs tb : List Float) (b : BoundProgram) (done : bind
   bound-passes = ap (λ x. every (program_tests x ws ss (length fs) (length tb))) (sym known.made) ∙ sym (
       after (eq-eqb (region_count ws) (region_count ws) refl) (after (eq-eqb (sample_count ss) (sample_count ss) refl)
       (after (le-leb (length fs) (length fs) (omega arith)) (after (le-leb 8194 (length tb) (let e = table-length in omega arith))
-      (after known.first (after known.second (final (sym shapes))))))))
+      (after known.first (after regions (final (sym shapes))))))))
 
 -- what the block's test shows
 module _ (b : BoundProgram) (ws ss : List ℕ) (frames table : ℕ) (ok : program_ok b ws ss frames table ≡ true) where
@@ -108,13 +94,13 @@ module _ (b : BoundProgram) (ws ss : List ℕ) (frames table : ℕ) (ok : progra
   pub region-good : (i : ℕ) → i < b.regions → valid_region b.samples (words_of ws i) ≡ true
   region-good i h =
       ap (λ m. valid_region m (words_of ws i)) (sym samples-are)
-      ∙ all-good (region_in ws (sample_count ss)) 0 (region_count ws) i (whole (region_in ws (sample_count ss)) (region_count ws) (fact 5)) (omega arith) (let e = regions-are in omega arith)
+      ∙ every-index (region_in ws (sample_count ss)) 0 (region_count ws) i (fact 5) (omega arith) (let e = regions-are in omega arith)
 
   pub region-counts : (i : ℕ) → i < b.regions → CountsIn (words_of ws i)
   region-counts i h = counts-known (words_of ws i) (every-index (counts_in ws) 0 (region_count ws) i (few-parts ws ss (fact 4)) (omega arith) (let e = regions-are in omega arith))
 
   pub sample-good : (j : ℕ) → j < b.samples → every (shape_tests b.frames (sample_at ss j)) ≡ true
-  sample-good j h = all-good (shape_in ss b.frames) 0 (sample_count ss) j (whole (shape_in ss b.frames) (sample_count ss) (fact 6)) (omega arith) (let e = samples-are in omega arith)
+  sample-good j h = every-index (shape_in ss b.frames) 0 (sample_count ss) j (fact 6) (omega arith) (let e = samples-are in omega arith)
 
   -- the frames of a good sample are among those bound, and so among those lent
   pub sample-inside : (j : ℕ) → j < b.samples → (sample_at ss j).start + (sample_at ss j).channels * (sample_at ss j).frames ≤ frames

@@ -4,17 +4,20 @@ use mathlib.Core.Path.{◌≡◌, refl, sym, ap, ◌∙◌}
 use mathlib.Core.Bool.{Bool, true, false, cond, ◌&&◌}
 use mathlib.Core.List.{List, [], ◌∷◌, map}
 use mathlib.Core.Logic.{◌⊎◌, inl, inr}
-use native.Mathlib.Nat.{add-zero, zero-add}
+use native.Mathlib.Nat.{zero-add, add_assoc}
 use native.Mathlib.Omega.{arith}
 use lib.Dec.{leb, eqb}
-use lib.ListN.{get_or}
-use lib.Ieee.{Float, nan}
-use Rattle.program.specs.Bind.{indexes}
+use lib.ListN.{get_or, length, take, drop}
+use lib.Ieee.{nan}
+use Rattle.std.specs.List.{fold, range_with_len, zip}
+use Rattle.std.proofs.lemmas.List.FromFn.{get_or-map-range_with_len}
 use borrow.Author.Tests.{lt-leb, le-leb, eq-eqb, ne_eqb, leb-true, leb-false, eqb-true, eqb-false}
-use Rattle.program.specs.declared.curve.Side.{Side}
+use Rattle.program.specs.declared.curve.Point.{Point}
 use Rattle.program.specs.declared.curve.Near.{Near}
-use Rattle.program.specs.Region.{word, float_of}
-use Rattle.program.specs.Curve.{Point, point_of, points_from, Gain, given, is_given, number_of, preset, put, table_of, lower, upper, linear, gain_at, velcurve_table, side_step, near_step, near_of, near_first}
+use Rattle.program.specs.Region.{word}
+use Rattle.program.specs.Valid.{run}
+use Rattle.program.proofs.Checks.{part}
+use Rattle.program.specs.Curve.{point_of_words, point_of, points_of, Gain, given, is_given, number_of, preset, put, table_of, lower, upper, linear, entry, gain_at, velcurve_table, near_step, near_of, near_first}
 
 module _ (p : Point) (tab : ℕ → Gain) where
   -- the point's own velocity, and any other
@@ -83,9 +86,6 @@ other-between v k n = go (leb k v) refl where
   go true e = let h = leb-true k v e in not-under v k v (omega arith)
   go false e = not-above v k v (leb-false k v e)
 
-abbrev side_of : (ℕ → Gain) → ℕ → Side
-side_of tab x = record { at = x; gain = number_of (tab x) }
-
 -- the nearest given velocity with one point more
 module _ (p : Point) (tab : ℕ → Gain) where
   lower-put : (v : ℕ) → lower (put p tab) v ≡ cond (Between (lower tab v) p.velocity v) p.velocity (lower tab v)
@@ -128,15 +128,15 @@ module _ (p : Point) (tab : ℕ → Gain) where
         ∙ e ∙ ap (λ t. cond t p.velocity (upper tab v (suc n))) (sym (is-between v p.velocity (upper tab v (suc n)) (omega arith) (let l = upper-ge tab v (suc n) in omega arith)))
     go (inr m) h = ap (λ g. cond (is_given g) v (upper (put p tab) (v + 1) n)) (there p tab v m) ∙ past (is_given (tab v)) m h
 
-  side-put : (t : Bool) (x : ℕ) → (x ≡ p.velocity → t ≡ true) → side_step t p (side_of tab x) ≡ side_of (put p tab) (cond t p.velocity x)
-  side-put true x h = ap (λ g. record { at = p.velocity; gain = number_of g }) (sym (here p tab p.velocity refl))
-  side-put false x h = ap (λ g. record { at = x; gain = number_of g }) (sym (there p tab x (λ e. let f = h e in let z : ◌≡◌ {A = ℕ} 0 1 = cc in omega arith)))
+  point-put : (t : Bool) (x : ℕ) → (x ≡ p.velocity → t ≡ true) → cond t p (entry tab x) ≡ entry (put p tab) (cond t p.velocity x)
+  point-put true x h = ap (λ g. record { velocity = p.velocity; gain = number_of g }) (sym (here p tab p.velocity refl))
+  point-put false x h = ap (λ g. record { velocity = x; gain = number_of g }) (sym (there p tab x (λ e. let f = h e in let z : ◌≡◌ {A = ℕ} 0 1 = cc in omega arith)))
 
 -- the points nearest to v in a table
 abbrev pub near_by : (ℕ → Gain) → ℕ → Near
 near_by tab v = record {
-  lo = record { at = lower tab v; gain = number_of (tab (lower tab v)) };
-  hi = record { at = upper tab v (127 - v); gain = number_of (tab (upper tab v (127 - v))) };
+  lo = entry tab (lower tab v);
+  hi = entry tab (upper tab v (127 - v));
 }
 
 near-put : (p : Point) (tab : ℕ → Gain) (v : ℕ) → near_step v (near_by tab v) p ≡ near_by (put p tab) v
@@ -145,15 +145,15 @@ near-put p tab v =
     let n = 127 - v in
     let l = lower tab v in
     let u = upper tab v n in
-    let lo : side_step (Between l p.velocity v) p (side_of tab l) ≡ side_of (put p tab) (lower (put p tab) v) =
-    side-put p tab (Between l p.velocity v) l (λ e. is-between l p.velocity v (omega arith) (let h = lower-le tab v in omega arith)) ∙ ap (side_of (put p tab)) (sym (lower-put p tab v)) in
-    let hi : side_step (Between v p.velocity u) p (side_of tab u) ≡ side_of (put p tab) (upper (put p tab) v n) =
-    side-put p tab (Between v p.velocity u) u (λ e. is-between v p.velocity u (let h = upper-ge tab v n in omega arith) (omega arith)) ∙ ap (side_of (put p tab)) (sym (upper-put p tab v n)) in
-    ap (λ (s : Side). record { lo = s; hi = side_step (Between v p.velocity u) p (side_of tab u) }) lo
-    ∙ ap (λ (s : Side). record { lo = side_of (put p tab) (lower (put p tab) v); hi = s }) hi
+    let lo : cond (Between l p.velocity v) p (entry tab l) ≡ entry (put p tab) (lower (put p tab) v) =
+    point-put p tab (Between l p.velocity v) l (λ e. is-between l p.velocity v (omega arith) (let h = lower-le tab v in omega arith)) ∙ ap (entry (put p tab)) (sym (lower-put p tab v)) in
+    let hi : cond (Between v p.velocity u) p (entry tab u) ≡ entry (put p tab) (upper (put p tab) v n) =
+    point-put p tab (Between v p.velocity u) u (λ e. is-between v p.velocity u (let h = upper-ge tab v n in omega arith) (omega arith)) ∙ ap (entry (put p tab)) (sym (upper-put p tab v n)) in
+    ap (λ (s : Point). record { lo = s; hi = cond (Between v p.velocity u) p (entry tab u) }) lo
+    ∙ ap (λ (s : Point). record { lo = entry (put p tab) (lower (put p tab) v); hi = s }) hi
 
 near-points : (ps : List Point) (tab : ℕ → Gain) (v : ℕ) → near_of v (near_by tab v) ps ≡ near_by (table_of tab ps) v
-unfolding near_of table_of
+unfolding table_of
 near-points [] tab v = refl
 near-points (p ∷ ps) tab v = ap (λ s. near_of v s ps) (near-put p tab v) ∙ near-points ps (put p tab) v
 
@@ -189,35 +189,28 @@ module _ (ps : List Point) (v : ℕ) (s : Near) (h : v ≤ 127) (is : s ≡ near
   whole : s ≡ near_by (table_of preset ps) v
   whole = is ∙ near-table ps v h
 
-  pub from-below : s.lo.at ≤ v
-  from-below = let e = ap (λ (x : Near). x.lo.at) whole in let l = lower-le (table_of preset ps) v in omega (arith, e)
+  pub from-below : s.lo.velocity ≤ v
+  from-below = let e = ap (λ (x : Near). x.lo.velocity) whole in let l = lower-le (table_of preset ps) v in omega (arith, e)
 
-  pub from-above : v ≤ s.hi.at
-  from-above = let e = ap (λ (x : Near). x.hi.at) whole in let l = upper-ge (table_of preset ps) v (127 - v) in omega (arith, e)
+  pub from-above : v ≤ s.hi.velocity
+  from-above = let e = ap (λ (x : Near). x.hi.velocity) whole in let l = upper-ge (table_of preset ps) v (127 - v) in omega (arith, e)
 
-  pub on-curve : linear s.lo.at s.lo.gain s.hi.at s.hi.gain v ≡ gain_at (table_of preset ps) v
-  on-curve = ap (λ (x : Near). linear x.lo.at x.lo.gain x.hi.at x.hi.gain v) whole
-
--- the loop over the points
-module _ (r : List ℕ) (v : ℕ) (s : Near) (k n : ℕ) where
-  pub near-more : k < n → near_of v s (points_from r k (n - k)) ≡ near_of v (near_step v s (point_of r k)) (points_from r (k + 1) (n - (k + 1)))
-  unfolding near_of
-  near-more h = let e : n - k ≡ suc (n - (k + 1)) = omega arith in ap (λ m. near_of v s (points_from r k m)) e
-
-  pub near-end : n ≤ k → near_of v s (points_from r k (n - k)) ≡ s
-  unfolding near_of
-  near-end h = let e : n - k ≡ 0 = omega arith in ap (λ m. near_of v s (points_from r k m)) e
-
-pub point-is : (r : List ℕ) (k v : ℕ) (s : Near) (a : ℕ) (g : Float) → a ≡ min (word r (136 + k)) 127 → g ≡ float_of (word r (264 + k))
-    → near_step v s (record { velocity = a; gain = g }) ≡ near_step v s (point_of r k)
-point-is r k v s a g ea eg = ap (λ x. near_step v s (record { velocity = x; gain = g })) ea ∙ ap (λ x. near_step v s (record { velocity = min (word r (136 + k)) 127; gain = x })) eg
-
-index-entry : {A : Type 0} (f : ℕ → A) (i k j : ℕ) (d : A) → j < k → get_or (map f (indexes i k)) j d ≡ f (i + j)
-index-entry f i zero j d h = absurd (omega arith)
-index-entry f i (suc k) zero d h = ap f (sym (add-zero i))
-index-entry f i (suc k) (suc j) d h = index-entry f (i + 1) k j d (omega arith) ∙ ap f (let e : i + 1 + j ≡ i + suc j = omega arith in e)
+  pub on-curve : linear s.lo s.hi v ≡ gain_at (table_of preset ps) v
+  on-curve = ap (λ (x : Near). linear x.lo x.hi v) whole
 
 -- an entry of the Rust's table is the gain at its velocity, which `velcurve` gives
 pub table-entry : (ps : List Point) (v : ℕ) → v < 128 → get_or (velcurve_table ps) v nan ≡ gain_at (table_of preset ps) v
 unfolding velcurve_table
-table-entry ps v h = index-entry (gain_at (table_of preset ps)) 0 128 v nan h ∙ ap (gain_at (table_of preset ps)) (zero-add v)
+table-entry ps v h = get_or-map-range_with_len (gain_at (table_of preset ps)) 0 128 v v nan h (zero-add v)
+
+-- the points of a region's words, which stand in two runs
+pub points_are : (r : List ℕ) (v n : ℕ) (s : Near) → length r ≡ 392 → n ≡ min (word r 29) 128
+    → near_of v s (points_of r) ≡ fold (λ (t : Near) (p : ℕ × ℕ). near_step v t (point_of_words p.0 p.1)) s (zip (take (136 + n - 136) (drop 136 r)) (take (264 + n - 264) (drop 264 r)))
+points_are r v n s long is =
+    let k : 136 + n - 136 ≡ n = omega arith in
+    let g : 264 + n - 264 ≡ n = omega arith in
+    rw (k, g, part r long 136 n (omega arith), part r long 264 n (omega arith), sym is) (go n 0 s) where
+      go : (m i : ℕ) (t : Near) → near_of v t (map (point_of r) (range_with_len i m))
+          ≡ fold (λ (t : Near) (p : ℕ × ℕ). near_step v t (point_of_words p.0 p.1)) t (zip (run r (136 + i) m) (run r (264 + i) m))
+      go zero i t = refl
+      go (suc m) i t = go m (i + 1) (near_step v t (point_of r i)) ∙ rw (add_assoc 136 i 1, add_assoc 264 i 1) refl

@@ -1,28 +1,24 @@
--- Finite singles by their bits, and the loop that looks for the largest. Assumes nothing.
-use Prim.Native.Nat.{ℕ, zero, suc, ◌+◌, ◌-◌, ◌/◌, ◌%◌, ◌<◌, ◌≤◌}
-use mathlib.Core.Path.{◌≡◌, refl, sym, ap, ◌∙◌}
-use mathlib.Core.Bool.{Bool, true, false, not, ◌&&◌, cond}
-use mathlib.Core.List.{List, map}
-use native.Mathlib.Nat.{sub-zero, add-zero, add_assoc}
-use native.Mathlib.Omega.{arith}
+-- Finite singles by their bits, and keys by their words. Assumes nothing.
+use Rattle.std.proofs.Common.{◌≡◌, ℕ, zero, suc, ◌+◌, ◌/◌, ◌%◌, ◌<◌, Bool, true, false, not, ◌&&◌, cond, List, [], ◌∷◌, map, max, fold, refl, sym, ap, ◌∙◌, arith}
+use Rattle.std.specs.List.{list_all}
+use Rattle.std.specs.Float.{float_is_finite}
 use lib.Dec.{ltb, leb, eqb}
 use lib.Ieee.{Float, binary32, of_bits, of_fields, odd, inf, nan}
-use borrow.Author.Tests.{lt-ltb, eq-eqb, ne_eqb, ltb-true, ltb-false, le-leb, lt-leb}
-use Rattle.program.specs.Region.{word, byte_of}
-use Rattle.program.specs.Valid.{every, is_finite, run}
+use borrow.Author.Tests.{lt-ltb, eq-eqb, ne_eqb, ltb-true, ltb-false, le-ltb, le-leb, lt-leb}
+use Rattle.program.specs.Region.{byte_of, float_of}
 
-odd-finite : (d : ℕ) (s : Bool) (q k l : ℕ) → is_finite (odd d s q k l) ≡ true
-unfolding odd is_finite
+odd-finite : (d : ℕ) (s : Bool) (q k l : ℕ) → float_is_finite (odd d s q k l) ≡ true
+unfolding odd float_is_finite
 odd-finite d s zero k l = refl
 odd-finite d s (suc q) k l = refl
 
-by_field : (a b s : Bool) (x : Float) → is_finite x ≡ true → is_finite (cond a (cond b (inf s) nan) x) ≡ not a
-unfolding is_finite
+by_field : (a b s : Bool) (x : Float) → float_is_finite x ≡ true → float_is_finite (cond a (cond b (inf s) nan) x) ≡ not a
+unfolding float_is_finite
 by_field true true s x e = refl
 by_field true false s x e = refl
 by_field false b s x e = e
 
-fields-finite : (s : Bool) (x t : ℕ) → is_finite (of_fields binary32 s x t) ≡ not (eqb x 255)
+fields-finite : (s : Bool) (x t : ℕ) → float_is_finite (of_fields binary32 s x t) ≡ not (eqb x 255)
 unfolding of_fields
 fields-finite s zero t = odd-finite 24 s t 0 149
 fields-finite s (suc x) t = by_field (eqb (suc x) 255) (eqb t 0) s _ (odd-finite 24 s (8388608 + t) x 149)
@@ -34,7 +30,7 @@ field_below m h = by-case (ltb m 0x7f80_0000) refl where
   by-case false e = let l = ltb-false m 0x7f80_0000 e in let q : m / 8388608 ≡ 255 = omega arith in rw (eq-eqb (m / 8388608) 255 q)
 
 -- a single is finite where its magnitude's bits are below the infinity's
-pub finite-bits : (w : ℕ) → is_finite (of_bits binary32 w) ≡ ltb (w % 0x8000_0000) 0x7f80_0000
+pub finite-bits : (w : ℕ) → float_is_finite (of_bits binary32 w) ≡ ltb (w % 0x8000_0000) 0x7f80_0000
 unfolding of_bits
 finite-bits w = fields-finite (leb 0x8000_0000 w) (w % 0x8000_0000 / 8388608) (w % 8388608) ∙ field_below (w % 0x8000_0000) (omega arith)
 
@@ -45,52 +41,24 @@ key-word w = by-case (ltb w 128) refl where
   by-case true e = let l = ltb-true w 128 e in le-leb (byte_of w) 127 (omega arith)
   by-case false e = let l = ltb-false w 128 e in lt-leb (byte_of w) 127 (omega arith)
 
-and_assoc : (a b c : Bool) → (a && (b && c)) ≡ ((a && b) && c)
-and_assoc true b c = refl
-and_assoc false b c = refl
+-- The largest of a list is below a limit where each is.
+largest-below : (h : ℕ → ℕ) (l a : ℕ) (xs : List ℕ) → ltb (fold (λ b x. max b (h x)) a xs) l ≡ (ltb a l && list_all (λ x. ltb (h x) l) xs)
+largest-below h l a [] = go (ltb a l) where
+  go : (t : Bool) → t ≡ (t && true)
+  go true = refl
+  go false = refl
+largest-below h l a (x ∷ xs) = largest-below h l (max a (h x)) xs ∙ go (ltb a l) (ltb (h x) l) refl refl where
+  go : (s t : Bool) → ltb a l ≡ s → ltb (h x) l ≡ t → (ltb (max a (h x)) l && list_all (λ y. ltb (h y) l) xs) ≡ (s && (t && list_all (λ y. ltb (h y) l) xs))
+  go true true p q = let e = ltb-true a l p in let f = ltb-true (h x) l q in ap (λ t. t && list_all (λ y. ltb (h y) l) xs) (lt-ltb (max a (h x)) l (omega arith))
+  go true false p q = let f = ltb-false (h x) l q in ap (λ t. t && list_all (λ y. ltb (h y) l) xs) (le-ltb (max a (h x)) l (omega arith))
+  go false t p q = let f = ltb-false a l p in ap (λ t. t && list_all (λ y. ltb (h y) l) xs) (le-ltb (max a (h x)) l (omega arith))
 
-pub and-true : (b : Bool) → (b && true) ≡ b
-and-true true = refl
-and-true false = refl
+each-by : {B : Type 0} (q : B → Bool) (f : ℕ → B) (p : ℕ → Bool) → ((w : ℕ) → q (f w) ≡ p w) → (xs : List ℕ) → list_all p xs ≡ list_all q (map f xs)
+each-by q f p by [] = refl
+each-by q f p by (x ∷ xs) = ap (λ t. t && list_all p xs) (sym (by x)) ∙ ap (λ t. q (f x) && t) (each-by q f p by xs)
 
-larger : (a b l : ℕ) → a < b → (ltb a l && ltb b l) ≡ ltb b l
-larger a b l h = by-case (ltb b l) refl where
-  by-case : (t : Bool) → ltb b l ≡ t → (ltb a l && t) ≡ t
-  by-case true e = let q = ltb-true b l e in let p : a < l = omega arith in rw (lt-ltb a l p) refl
-  by-case false e = by_end (ltb a l) where
-    by_end : (t : Bool) → (t && false) ≡ false
-    by_end true = refl
-    by_end false = refl
+pub finite_words : (xs : List ℕ) → ltb (fold (λ a w. max a (w % 0x8000_0000)) 0 xs) 0x7f80_0000 ≡ list_all float_is_finite (map float_of xs)
+finite_words xs = largest-below (λ w. w % 0x8000_0000) 0x7f80_0000 0 xs ∙ each-by float_is_finite float_of (λ w. ltb (w % 0x8000_0000) 0x7f80_0000) finite-bits xs
 
-smaller : (a b l : ℕ) → b ≤ a → (ltb a l && ltb b l) ≡ ltb a l
-smaller a b l h = by-case (ltb a l) refl where
-  by-case : (t : Bool) → ltb a l ≡ t → (t && ltb b l) ≡ t
-  by-case true e = let q = ltb-true a l e in let p : b < l = omega arith in rw (lt-ltb b l p) refl
-  by-case false e = refl
-
--- A test q of f of each word, that goes by a number h of the word below a limit l: the largest of the first k words decides with what is left.
-module _ {B : Type 0} (q : B → Bool) (f : ℕ → B) (h : ℕ → ℕ) (l : ℕ) (by : (w : ℕ) → q (f w) ≡ ltb (h w) l) (r : List ℕ) (at n : ℕ) where
-  abbrev pub Worst : ℕ → ℕ → Type 0
-  Worst worst k = every (map q (map f (run r at n))) ≡ (ltb worst l && every (map q (map f (run r (at + k) (n - k)))))
-
-  pub worst-none : 0 < l → Worst 0 0
-  worst-none p = rw (lt-ltb 0 l p, add-zero, sub-zero)
-
-  next : (worst k : ℕ) → k < n → Worst worst k
-      → every (map q (map f (run r at n))) ≡ ((ltb worst l && ltb (h (word r (at + k))) l) && every (map q (map f (run r (at + (k + 1)) (n - (k + 1))))))
-  next worst k d so_far =
-      let e : n - k ≡ suc (n - (k + 1)) = omega arith in
-      so_far ∙ ap (λ m. ltb worst l && every (map q (map f (run r (at + k) m)))) e
-      ∙ ap (λ t. ltb worst l && (t && every (map q (map f (run r (at + k + 1) (n - (k + 1))))))) (by (word r (at + k)))
-      ∙ ap (λ a. ltb worst l && (ltb (h (word r (at + k))) l && every (map q (map f (run r a (n - (k + 1))))))) (add_assoc at k 1)
-      ∙ and_assoc (ltb worst l) (ltb (h (word r (at + k))) l) _
-
-  pub worse : (worst k : ℕ) → k < n → Worst worst k → worst < h (word r (at + k)) → Worst (h (word r (at + k))) (k + 1)
-  worse worst k d so_far p = next worst k d so_far ∙ ap (λ t. t && every (map q (map f (run r (at + (k + 1)) (n - (k + 1)))))) (larger worst _ l p)
-
-  pub no-worse : (worst k : ℕ) → k < n → Worst worst k → h (word r (at + k)) ≤ worst → Worst worst (k + 1)
-  no-worse worst k d so_far p = next worst k d so_far ∙ ap (λ t. t && every (map q (map f (run r (at + (k + 1)) (n - (k + 1)))))) (smaller worst _ l p)
-
-  pub worst-done : (worst k : ℕ) → n ≤ k → Worst worst k → ltb worst l ≡ every (map q (map f (run r at n)))
-  worst-done worst k d so_far = let e : n - k ≡ 0 = omega arith in
-      sym (so_far ∙ ap (λ m. ltb worst l && every (map q (map f (run r (at + k) m)))) e ∙ and-true _)
+pub key_words : (xs : List ℕ) → ltb (fold (λ a w. max a w) 0 xs) 128 ≡ list_all (λ v. leb v 127) (map byte_of xs)
+key_words xs = largest-below (λ w. w) 128 0 xs ∙ each-by (λ v. leb v 127) byte_of (λ w. ltb w 128) key-word xs

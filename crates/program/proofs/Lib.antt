@@ -1,8 +1,7 @@
 pub mod Words
 pub mod Finite
 pub mod Checks
-pub mod Samples
-pub mod Binding
-pub mod Lookups
 pub mod Curves
+pub mod Lookups
+pub mod Binding
 pub mod Bound

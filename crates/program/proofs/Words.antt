@@ -1,56 +1,65 @@
--- Laws of a region's words. Assumes nothing.
-use Prim.Native.Nat.{ℕ, zero, suc, ◌+◌, ◌-◌, ◌*◌, ◌%◌, ◌<◌, ◌≤◌}
-use mathlib.Core.Path.{◌≡◌, refl, sym, ap, ◌∙◌}
-use mathlib.Core.Bool.{true, not}
-use mathlib.Core.List.{List}
-use native.Mathlib.Nat.{zero-add, add-zero}
+-- Laws of a region's words, and of a sample's. Assumes nothing.
+use Rattle.std.proofs.Common.{◌≡◌, ℕ, zero, suc, ◌+◌, ◌*◌, ◌/◌, ◌<◌, ◌≤◌, List, [], ◌∷◌, length, take, drop, replicate, get_or, refl, ap, ◌∙◌, cond, Bool, true, false, Option, None, Some, arith}
+use Rattle.std.proofs.lemmas.List.{drop-drop}
+use Rattle.std.specs.Option.{unwrap_or, option_map, option_copied}
+use Rattle.std.specs.Simd.{first_chunks}
+use denote.Ref.{Bor}
+use lib.Dec.{leb}
+use borrow.Author.Tests.{leb-true, leb-false}
+use lib.ListN.{get_or-eq_default}
 use lib.Seq.{get_or-take, get_or-drop}
-use lib.ListN.{length, get_or, take, drop, replicate, length-take, length-drop, get_or-eq_default}
-use native.Mathlib.Omega.{arith}
-use lib.IntN.{ℤ, pos, negsuc, ◌-ℤ◌}
-use lib.Dec.{T}
-use lib.Ieee.{binary32, nan_bits, is_nan, nan, Float, of_bits, inf, fin}
-use lib.Ieee.Bits.{nan_bits_above, nan_bits_is}
-use borrow.Author.Tests.{lt-ltb, le-ltb, le-leb, lt-leb}
-use Rattle.program.specs.Region.{words_of}
+use native.Mathlib.Nat.{add-zero}
+use Rattle.program.specs.Region.{float_of, words_of}
+use Rattle.program.specs.Sample.{sample_of, sample_at}
 
--- a pattern whose magnitude is at most the infinity's is no NaN's
-pub no_nan : (w : ℕ) → w % 0x8000_0000 ≤ 0x7f80_0000 → T (not (nan_bits binary32 w))
-no_nan w h = rw (nan_bits_above binary32 w ∙ le-ltb 0x7f80_0000 (w % 0x8000_0000) h) tt
+-- what a reference that may be missing points to
+pub lent : {A : Type 0} (o : Option (Bor A)) (d : Bor A) → (unwrap_or o d).now ≡ unwrap_or (option_map (λ (x : Bor A). x.now) o) d.now
+lent None d = refl
+lent (Some x) d = refl
 
-is-nan : (x : Float) → is_nan x ≡ true → x ≡ nan
-unfolding is_nan
-is-nan nan e = refl
-is-nan (inf s) e = cc
-is-nan (fin s m x) e = cc
+pub copied-or : (m : Option (List ℕ)) (o : Option (Bor (List ℕ))) (d : List ℕ) → m ≡ option_copied o → unwrap_or m d ≡ unwrap_or (option_map (λ (x : Bor (List ℕ)). x.now) o) d
+copied-or m None d e = ap (λ n. unwrap_or n d) e
+copied-or m (Some x) d e = ap (λ n. unwrap_or n d) e
 
--- and above it is
-pub a-nan : (w : ℕ) → 0x7f80_0000 < w % 0x8000_0000 → of_bits binary32 w ≡ nan
-a-nan w h = is-nan _ (sym (nan_bits_is binary32 w) ∙ nan_bits_above binary32 w ∙ lt-ltb 0x7f80_0000 (w % 0x8000_0000) h)
+-- part i of n parts of w words, or d
+pub part-at : (w n i : ℕ) (xs d : List ℕ) → i < n → get_or (first_chunks w n xs) i d ≡ take w (drop (i * w) xs)
+part-at w zero i xs d h = absurd (omega arith)
+part-at w (suc n) zero xs d h = let e : 0 * w ≡ 0 = omega arith in rw e refl
+part-at w (suc n) (suc i) xs d h =
+    part-at w n i (drop w xs) d (omega arith) ∙ ap (take w) (drop-drop (i * w) w xs)
+    ∙ ap (λ k. take w (drop k xs)) (let e : w + i * w ≡ suc i * w = omega arith in e)
 
-pub minus_one : (n : ℕ) → negsuc 0 -ℤ pos n ≡ negsuc n
-minus_one zero = refl
-minus_one (suc n) = simp zero-add
+pub parts-length : (w n : ℕ) (xs : List ℕ) → length (first_chunks w n xs) ≡ n
+parts-length w zero xs = refl
+parts-length w (suc n) xs = ap suc (parts-length w n (drop w xs))
 
-pub past : {A : Type 0} (l : List A) (d : A) (n : ℕ) → length l ≤ n → d ≡ get_or l n d
-past l d n h = sym (get_or-eq_default l d h)
-
-pub next : {w : ℕ} (k : ℕ) → k ≤ w → (w ≡ k → ⊥) → suc k ≤ w
-next k h n = omega arith
+pub part-past : (w n i : ℕ) (xs d : List ℕ) → n ≤ i → get_or (first_chunks w n xs) i d ≡ d
+part-past w n i xs d h = get_or-eq_default (first_chunks w n xs) d (let e = parts-length w n xs in omega arith)
 
 -- region i's words are a part of the program's, or zeros
-module _ (ws : List ℕ) (i : ℕ) where
-  pub there : i * 392 + 392 ≤ length ws → take (i * 392 + 392 - i * 392) (drop (i * 392) ws) ≡ words_of ws i
-  unfolding words_of
-  there h = let e : i * 392 + 392 - i * 392 ≡ 392 = omega arith in rw (e, le-leb _ _ h)
+pub words-are : (ws : List ℕ) (i : ℕ) → get_or (first_chunks 392 (length ws / 392) ws) i (replicate 392 0) ≡ words_of ws i
+unfolding words_of
+words-are ws i = by-case (leb (i * 392 + 392) (length ws)) refl where
+  by-case : (t : Bool) → leb (i * 392 + 392) (length ws) ≡ t → get_or (first_chunks 392 (length ws / 392) ws) i (replicate 392 0) ≡ cond t (take 392 (drop (i * 392) ws)) (replicate 392 0)
+  by-case true e = let h = leb-true _ _ e in part-at 392 (length ws / 392) i ws (replicate 392 0) (omega arith)
+  by-case false e = let h = leb-false _ _ e in part-past 392 (length ws / 392) i ws (replicate 392 0) (omega arith)
 
-  pub part_length : i * 392 + 392 ≤ length ws → length (take (i * 392 + 392 - i * 392) (drop (i * 392) ws)) ≡ 392
-  part_length h = simp (length-take, length-drop) (omega arith)
-
-  pub none : length ws < i * 392 + 392 → replicate 392 0 ≡ words_of ws i
-  unfolding words_of
-  none h = rw (lt-leb _ _ h)
-
-  pub first_word : i * 392 + 392 ≤ length ws → get_or ws (i * 392) 0 ≡ get_or (words_of ws i) 0 0
-  unfolding words_of
-  first_word h = rw (le-leb _ _ h) (sym (get_or-take 392 (drop (i * 392) ws) 0 0 (omega arith) ∙ get_or-drop (i * 392) ws 0 0 ∙ ap (λ k. get_or ws k 0) (add-zero (i * 392))))
+-- sample j's words are a part of the program's, or zeros
+pub sample-is : (ss : List ℕ) (j : ℕ) (w : List ℕ) → w ≡ get_or (first_chunks 4 (length ss / 4) ss) j (0 ∷ 0 ∷ 0 ∷ 0 ∷ [])
+    → record { rate = float_of (get_or w 0 0); channels = get_or w 1 0; frames = get_or w 2 0; start = get_or w 3 0 } ≡ sample_at ss j
+unfolding sample_at
+sample-is ss j w is = by-case (leb (j * 4 + 4) (length ss)) refl where
+  by-case : (t : Bool) → leb (j * 4 + 4) (length ss) ≡ t
+      → record { rate = float_of (get_or w 0 0); channels = get_or w 1 0; frames = get_or w 2 0; start = get_or w 3 0 }
+      ≡ cond t (sample_of ss (j * 4)) (record { rate = float_of 0; channels = 0; frames = 0; start = 0 })
+  by-case true e =
+      let h = leb-true _ _ e in
+      let part : w ≡ take 4 (drop (j * 4) ss) = is ∙ part-at 4 (length ss / 4) j ss (0 ∷ 0 ∷ 0 ∷ 0 ∷ []) (omega arith) in
+      let at : (k : ℕ) → k < 4 → get_or w k 0 ≡ get_or ss (j * 4 + k) 0 =
+      λ k l. ap (λ v. get_or v k 0) part ∙ get_or-take 4 (drop (j * 4) ss) k 0 l ∙ get_or-drop (j * 4) ss k 0 in
+      let first : get_or w 0 0 ≡ get_or ss (j * 4) 0 = at 0 (omega arith) ∙ ap (λ k. get_or ss k 0) (add-zero (j * 4)) in
+      rw (first, at 1 (omega arith), at 2 (omega arith), at 3 (omega arith)) refl
+  by-case false e =
+      let h = leb-false _ _ e in
+      let none : w ≡ 0 ∷ 0 ∷ 0 ∷ 0 ∷ [] = is ∙ part-past 4 (length ss / 4) j ss (0 ∷ 0 ∷ 0 ∷ 0 ∷ []) (omega arith) in
+      rw none refl

@@ -1,8 +1,10 @@
 -- Binding: 01's tests 1, 2, 3 and 4 in that order, and what is bound. Definitions only.
-use Rattle.std.specs.Prelude.{ℕ, zero, suc, ◌+◌, ◌/◌, Bool, cond, ◌&&◌, List, [], ◌∷◌, map, length, leb, eqb, Float}
+use Rattle.std.specs.Prelude.{ℕ, ◌/◌, Bool, not, cond, ◌&&◌, List, [], ◌∷◌, ◌++◌, find, length, leb, eqb, Float, Option, Result, Ok, Err}
+use Rattle.std.specs.List.{list_all, range_with_len}
+use Rattle.std.specs.Option.{option_map_or}
 use Rattle.program.specs.declared.bind.BoundProgram.{BoundProgram}
-use Rattle.program.specs.declared.bind.Bound.{Bound}
-use Rattle.program.specs.declared.bind.Bound.TheVariants.{Done, Counts, BadRegion, BadSample, BadTable}
+use Rattle.program.specs.declared.bind.BindError.{BindError}
+use Rattle.program.specs.declared.bind.BindError.TheVariants.{Counts, BadRegion, BadSample, BadTable}
 use Rattle.program.specs.Region.{words_of}
 use Rattle.program.specs.Valid.{every, all_finite, counts_tests, valid_region}
 use Rattle.program.specs.Sample.{sample_at, shape_tests, sample_tests}
@@ -14,16 +16,6 @@ region_count ws = length ws / 392
 abbrev pub sample_count : List ℕ → ℕ
 sample_count ss = length ss / 4
 
--- k numbers from i on
-abbrev pub indexes : ℕ → ℕ → List ℕ
-indexes i zero = []
-indexes i (suc k) = i ∷ indexes (i + 1) k
-
--- of k numbers from i on the first that p refuses, or the one after them
-unfoldable pub first_bad : (ℕ → Bool) → ℕ → ℕ → ℕ
-first_bad p i zero = i
-first_bad p i (suc k) = cond (p i) (first_bad p (i + 1) k) i
-
 -- test 1 of region i
 abbrev pub counts_in : List ℕ → ℕ → Bool
 counts_in ws i = every (counts_tests (words_of ws i))
@@ -31,7 +23,7 @@ counts_in ws i = every (counts_tests (words_of ws i))
 -- test 1
 unfoldable pub counts_ok : List ℕ → List ℕ → Bool
 counts_ok ws ss =
-    every (leb (region_count ws) 256 ∷ leb (sample_count ss) 256 ∷ every (map (counts_in ws) (indexes 0 (region_count ws))) ∷ [])
+    every (leb (region_count ws) 256 ∷ leb (sample_count ss) 256 ∷ list_all (counts_in ws) (range_with_len 0 (region_count ws)) ∷ [])
 
 -- test 2 of region i, where there are m samples
 abbrev pub region_in : List ℕ → ℕ → ℕ → Bool
@@ -54,39 +46,42 @@ pub data Answer : Type 0 where
   bound : BoundProgram → Answer
   refused : ℕ → List ℕ → Answer
 
-abbrev pub answer_of : Bound → Answer
-answer_of (Done b) = bound b
-answer_of Counts = refused 1 []
-answer_of (BadRegion i) = refused 2 (i ∷ [])
-answer_of (BadSample j) = refused 3 (j ∷ [])
-answer_of BadTable = refused 4 []
+abbrev pub answer_of : Result BoundProgram BindError → Answer
+answer_of (Ok b) = bound b
+answer_of (Err Counts) = refused 1 []
+answer_of (Err (BadRegion i)) = refused 2 (i ∷ [])
+answer_of (Err (BadSample j)) = refused 3 (j ∷ [])
+answer_of (Err BadTable) = refused 4 []
 
 abbrev pub bound_of : List ℕ → List ℕ → List Float → BoundProgram
 bound_of ws ss fs = record { regions = region_count ws; samples = sample_count ss; frames = length fs }
 
 -- the first region that test 2 refuses, and the first sample that test 3 refuses
-abbrev pub bad_region : List ℕ → List ℕ → ℕ
-bad_region ws ss = first_bad (region_in ws (sample_count ss)) 0 (region_count ws)
+abbrev pub bad_region : List ℕ → List ℕ → Option ℕ
+bad_region ws ss = find (λ i. not (region_in ws (sample_count ss) i)) (range_with_len 0 (region_count ws))
 
-abbrev pub bad_sample : List ℕ → List Float → ℕ
-bad_sample ss fs = first_bad (sample_in ss fs) 0 (sample_count ss)
+abbrev pub bad_sample : List ℕ → List Float → Option ℕ
+bad_sample ss fs = find (λ j. not (sample_in ss fs j)) (range_with_len 0 (sample_count ss))
 
 unfoldable pub binding : List ℕ → List ℕ → List Float → List Float → Answer
 binding ws ss fs tb =
     cond (counts_ok ws ss)
-    (cond (eqb (bad_region ws ss) (region_count ws))
-    (cond (eqb (bad_sample ss fs) (sample_count ss))
-    (cond (table_ok tb) (bound (bound_of ws ss fs)) (refused 4 []))
-    (refused 3 (bad_sample ss fs ∷ [])))
-    (refused 2 (bad_region ws ss ∷ [])))
+    (option_map_or (λ i. refused 2 (i ∷ [])) (bad_region ws ss)
+    (option_map_or (λ j. refused 3 (j ∷ [])) (bad_sample ss fs)
+    (cond (table_ok tb) (bound (bound_of ws ss fs)) (refused 4 []))))
     (refused 1 [])
+
+-- n regions and m samples are lent, as many as are bound, and no fewer frames and entries of the table
+abbrev pub size_tests : BoundProgram → ℕ → ℕ → ℕ → ℕ → List Bool
+size_tests b n m frames table = eqb n b.regions ∷ eqb m b.samples ∷ leb b.frames frames ∷ leb 8194 table ∷ []
 
 -- The program's share of 01's test 8: the bound program is what binding makes of the regions and samples, as far as their words show it, and
 -- frames and table are not lent shorter than bound.
 abbrev pub program_tests : BoundProgram → List ℕ → List ℕ → ℕ → ℕ → List Bool
 program_tests b ws ss frames table =
-    eqb (region_count ws) b.regions ∷ eqb (sample_count ss) b.samples ∷ leb b.frames frames ∷ leb 8194 table ∷ counts_ok ws ss
-    ∷ eqb (bad_region ws ss) (region_count ws) ∷ eqb (first_bad (shape_in ss b.frames) 0 (sample_count ss)) (sample_count ss) ∷ []
+    size_tests b (region_count ws) (sample_count ss) frames table
+    ++ (counts_ok ws ss ∷ list_all (region_in ws (sample_count ss)) (range_with_len 0 (region_count ws))
+    ∷ list_all (shape_in ss b.frames) (range_with_len 0 (sample_count ss)) ∷ [])
 
 unfoldable pub program_ok : BoundProgram → List ℕ → List ℕ → ℕ → ℕ → Bool
 program_ok b ws ss frames table = every (program_tests b ws ss frames table)

@@ -1,27 +1,23 @@
 -- A region's velocity curve: the Rust's `velcurve_table`. Definitions only.
-use Rattle.std.specs.Prelude.{ℕ, zero, suc, ◌+◌, ◌-◌, min, Bool, true, false, cond, ◌&&◌, List, [], ◌∷◌, map, leb, eqb, pos, Float}
+use Rattle.std.specs.Prelude.{ℕ, zero, suc, ◌+◌, ◌-◌, min, Bool, true, false, cond, ◌&&◌, List, [], ◌∷◌, map, fold, leb, eqb, pos, Float}
+use Rattle.std.specs.List.{range_with_len}
 use Rattle.std.specs.Float.{binary32}
 use Rattle.std.specs.Float.Ieee.{add, sub, mul, div, of_int}
-use Rattle.program.specs.declared.curve.Side.{Side}
+use Rattle.program.specs.declared.curve.Point.{Point}
 use Rattle.program.specs.declared.curve.Near.{Near}
 use Rattle.program.specs.Region.{float_of, word, words_of}
-use Rattle.program.specs.Bind.{indexes}
 
-pub record Point : Type 0 where
-  pub velocity : ℕ
-  pub gain : Float
+-- the point that its two words mean; a velocity above 127 counts as 127
+abbrev pub point_of_words : ℕ → ℕ → Point
+point_of_words v g = record { velocity = min v 127; gain = float_of g }
 
--- the k-th velocity point of a region's words r, a velocity above 127 counting as 127, and n of them from the k-th on
+-- the k-th velocity point of a region's words r
 abbrev pub point_of : List ℕ → ℕ → Point
-point_of r k = record { velocity = min (word r (136 + k)) 127; gain = float_of (word r (264 + k)) }
-
-abbrev pub points_from : List ℕ → ℕ → ℕ → List Point
-points_from r k zero = []
-points_from r k (suc n) = point_of r k ∷ points_from r (k + 1) n
+point_of r k = point_of_words (word r (136 + k)) (word r (264 + k))
 
 -- the region's points: as many as word 29 says, and never more than 128
 abbrev pub points_of : List ℕ → List Point
-points_of r = points_from r 0 (min (word r 29) 128)
+points_of r = map (point_of r) (range_with_len 0 (min (word r 29) 128))
 
 -- a velocity's gain: given by a point, or unset
 pub data Gain : Type 0 where
@@ -57,41 +53,42 @@ unfoldable pub upper : (ℕ → Gain) → ℕ → ℕ → ℕ
 upper tab v zero = v
 upper tab v (suc n) = cond (is_given (tab v)) v (upper tab (v + 1) n)
 
--- between (a, ga) and (b, gb), in singles
-abbrev pub linear : ℕ → Float → ℕ → Float → ℕ → Float
-linear a ga b gb v =
-    cond (eqb a b) ga (add binary32 ga (mul binary32 (div binary32 (of_int binary32 (pos (v - a))) (of_int binary32 (pos (b - a)))) (sub binary32 gb ga)))
+-- between two points, in singles
+abbrev pub linear : Point → Point → ℕ → Float
+linear p q v =
+    cond (eqb p.velocity q.velocity) p.gain
+    (add binary32 p.gain (mul binary32 (div binary32 (of_int binary32 (pos (v - p.velocity))) (of_int binary32 (pos (q.velocity - p.velocity)))) (sub binary32 q.gain p.gain)))
+
+-- the point of a table at a velocity
+abbrev pub entry : (ℕ → Gain) → ℕ → Point
+entry tab v = record { velocity = v; gain = number_of (tab v) }
 
 abbrev pub gain_at : (ℕ → Gain) → ℕ → Float
-gain_at tab v = let a = lower tab v in let b = upper tab v (127 - v) in linear a (number_of (tab a)) b (number_of (tab b)) v
+gain_at tab v = linear (entry tab (lower tab v)) (entry tab (upper tab v (127 - v))) v
 
 unfoldable pub velcurve_table : List Point → List Float
-velcurve_table ps = map (gain_at (table_of preset ps)) (indexes 0 128)
+velcurve_table ps = map (gain_at (table_of preset ps)) (range_with_len 0 128)
 
 -- entry v of region i's table; a velocity above 127 counts as 127
 unfoldable pub velcurve_at : List ℕ → ℕ → ℕ → Float
 velcurve_at ws i vel = gain_at (table_of preset (points_of (words_of ws i))) (min vel 127)
 
 -- One pass instead of a table: the given gains nearest to v from below and from above.
-abbrev pub side_step : Bool → Point → Side → Side
-side_step t p s = cond t (record { at = p.velocity; gain = p.gain }) s
-
 unfoldable pub near_step : ℕ → Near → Point → Near
 near_step v s p = record {
-  lo = side_step (leb s.lo.at p.velocity && leb p.velocity v) p s.lo;
-  hi = side_step (leb v p.velocity && leb p.velocity s.hi.at) p s.hi;
+  lo = cond (leb s.lo.velocity p.velocity && leb p.velocity v) p s.lo;
+  hi = cond (leb v p.velocity && leb p.velocity s.hi.velocity) p s.hi;
 }
 
-unfoldable pub near_of : ℕ → Near → List Point → Near
-near_of v s [] = s
-near_of v s (p ∷ ps) = near_of v (near_step v s p) ps
+abbrev pub near_of : ℕ → Near → List Point → Near
+near_of v s ps = fold (near_step v) s ps
 
 -- before any point: velocities 0 and 127 have their gains
-abbrev pub silent : Side
-silent = record { at = 0; gain = float_of 0 }
+abbrev pub silent : Point
+silent = record { velocity = 0; gain = float_of 0 }
 
-abbrev pub loud : Side
-loud = record { at = 127; gain = float_of 0x3f80_0000 }
+abbrev pub loud : Point
+loud = record { velocity = 127; gain = float_of 0x3f80_0000 }
 
 abbrev pub near_first : ℕ → Near
 near_first v = record { lo = cond (eqb v 127) loud silent; hi = cond (eqb v 0) silent loud }

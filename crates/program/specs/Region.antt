@@ -1,11 +1,13 @@
 -- A region's words and the region that they mean: docs/PROGRAM.md's table. Definitions only.
-use Rattle.std.specs.Prelude.{ℕ, zero, suc, ◌+◌, ◌-◌, ◌*◌, min, not, cond, List, [], ◌∷◌, length, get_or, take, drop, replicate, ltb, leb, eqb, ℤ, pos, negsuc, Float}
+use Rattle.program.specs.declared.region.VelCrossfade.{VelCrossfade}
+use Rattle.std.specs.Prelude.{ℕ, zero, suc, ◌+◌, ◌*◌, min, not, cond, List, [], ◌∷◌, length, get_or, take, drop, replicate, leb, eqb, ℤ, Float, None, Option, Some}
+use Rattle.std.specs.Int.{w32, cast_signed}
 use Rattle.std.specs.Float.{binary32}
 use Rattle.std.specs.Float.Ieee.{of_bits}
 use Rattle.program.specs.declared.region.LoopMode.{LoopMode}
 use Rattle.program.specs.declared.region.LoopMode.TheVariants.{NoLoop, OneShot, Continuous, Sustain}
 use Rattle.program.specs.declared.region.LoopSource.{LoopSource}
-use Rattle.program.specs.declared.region.LoopSource.TheVariants.{None, Sfz, File, Whole}
+use Rattle.program.specs.declared.region.LoopSource.TheVariants as Source
 use Rattle.program.specs.declared.region.Trigger.{Trigger}
 use Rattle.program.specs.declared.region.Trigger.TheVariants.{Attack, Release, ReleaseKey, First, Legato}
 use Rattle.program.specs.declared.region.OffMode.{OffMode}
@@ -14,18 +16,9 @@ use Rattle.program.specs.declared.region.FilterKind.{FilterKind}
 use Rattle.program.specs.declared.region.FilterKind.TheVariants.{Lpf1p, Hpf1p, Lpf2p, Hpf2p, Bpf2p, Brf2p, Lpf4p, Hpf4p, Lpf6p, Hpf6p, Peq, Lsh, Hsh}
 use Rattle.program.specs.declared.region.EqKind.{EqKind}
 use Rattle.program.specs.declared.region.EqKind.TheVariants.{Peak, LowShelf, HighShelf}
-use Rattle.program.specs.declared.region.MaybeU32.{MaybeU32}
-use Rattle.program.specs.declared.region.MaybeU32.TheVariants.{Absent, Present}
-use Rattle.program.specs.declared.region.OffBy.{OffBy}
-use Rattle.program.specs.declared.region.OffBy.TheVariants.{Nobody, Group}
 use Rattle.program.specs.declared.region.LoopPoints.{LoopPoints}
-use Rattle.program.specs.declared.region.LoopPoints.TheVariants.{Unlooped, Looped}
 use Rattle.program.specs.declared.region.Seq.{Seq}
-use Rattle.program.specs.declared.region.Seq.TheVariants.{EveryTime, InTurn}
 use Rattle.program.specs.declared.region.Rand.{Rand}
-use Rattle.program.specs.declared.region.Rand.TheVariants.{AnyDraw, Within}
-use Rattle.program.specs.declared.region.XfVel.{XfVel}
-use Rattle.program.specs.declared.region.XfVel.TheVariants.{NoCrossfade, Crossfade}
 use Rattle.program.specs.declared.region.Envelope.{Envelope}
 use Rattle.program.specs.declared.region.Filter.{Filter}
 use Rattle.program.specs.declared.region.EqBand.{EqBand}
@@ -42,8 +35,8 @@ abbrev pub float_of : ℕ → Float
 float_of w = of_bits binary32 w
 
 -- two's complement
-unfoldable pub signed_of : ℕ → ℤ
-signed_of w = cond (ltb w 0x8000_0000) (pos w) (negsuc (0xffff_ffff - w))
+abbrev pub signed_of : ℕ → ℤ
+signed_of w = cast_signed w32 w
 
 -- a word above 255 counts as 255, which no key and no velocity may be
 abbrev pub byte_of : ℕ → ℕ
@@ -53,54 +46,58 @@ byte_of w = min w 255
 abbrev pub loop_modes : List LoopMode
 loop_modes = NoLoop ∷ OneShot ∷ Continuous ∷ Sustain ∷ []
 
-unfoldable pub loop_mode_of : ℕ → LoopMode
+abbrev pub loop_mode_of : ℕ → LoopMode
 loop_mode_of w = get_or loop_modes w NoLoop
 
 abbrev pub loop_sources : List LoopSource
-loop_sources = None ∷ Sfz ∷ File ∷ Whole ∷ []
+loop_sources = Source.None ∷ Source.Sfz ∷ Source.File ∷ Source.Whole ∷ []
 
-unfoldable pub loop_source_of : ℕ → LoopSource
-loop_source_of w = get_or loop_sources w None
+abbrev pub loop_source_of : ℕ → LoopSource
+loop_source_of w = get_or loop_sources w Source.None
 
 abbrev pub triggers : List Trigger
 triggers = Attack ∷ Release ∷ ReleaseKey ∷ First ∷ Legato ∷ []
 
-unfoldable pub trigger_of : ℕ → Trigger
+abbrev pub trigger_of : ℕ → Trigger
 trigger_of w = get_or triggers w Attack
 
 abbrev pub off_modes : List OffMode
 off_modes = Fast ∷ Normal ∷ Time ∷ []
 
-unfoldable pub off_mode_of : ℕ → OffMode
+abbrev pub off_mode_of : ℕ → OffMode
 off_mode_of w = get_or off_modes w Fast
 
 abbrev pub filter_kinds : List FilterKind
 filter_kinds = Lpf1p ∷ Hpf1p ∷ Lpf2p ∷ Hpf2p ∷ Bpf2p ∷ Brf2p ∷ Lpf4p ∷ Hpf4p ∷ Lpf6p ∷ Hpf6p ∷ Peq ∷ Lsh ∷ Hsh ∷ []
 
-unfoldable pub filter_kind_of : ℕ → FilterKind
+abbrev pub filter_kind_of : ℕ → FilterKind
 filter_kind_of w = get_or filter_kinds w Lpf1p
 
 abbrev pub eq_kinds : List EqKind
 eq_kinds = Peak ∷ LowShelf ∷ HighShelf ∷ []
 
-unfoldable pub eq_kind_of : ℕ → EqKind
+abbrev pub eq_kind_of : ℕ → EqKind
 eq_kind_of w = get_or eq_kinds w Peak
 
 -- a presence word of 0 is none
-abbrev pub maybe_of : ℕ → ℕ → MaybeU32
-maybe_of p w = cond (eqb p 0) Absent (Present w)
+abbrev pub maybe_of : {A : Type 0} → ℕ → A → Option A
+maybe_of p x = cond (eqb p 0) None (Some x)
 
-abbrev pub off_by_of : ℕ → ℕ → OffBy
-off_by_of p w = cond (eqb p 0) Nobody (Group (signed_of w))
+abbrev pub off_by_of : ℕ → ℕ → Option ℤ
+off_by_of p w = maybe_of p (signed_of w)
 
-abbrev pub loop_points_of : ℕ → ℕ → ℕ → LoopPoints
-loop_points_of p a b = cond (eqb p 0) Unlooped (Looped a b)
+abbrev pub loop_points_of : ℕ → ℕ → ℕ → Option LoopPoints
+loop_points_of p a b = maybe_of p (record { start = a; end = b })
 
-abbrev pub seq_of : ℕ → ℕ → ℕ → Seq
-seq_of p n k = cond (eqb p 0) EveryTime (InTurn n k)
+abbrev pub seq_of : ℕ → ℕ → ℕ → Option Seq
+seq_of p n k = maybe_of p (record { length = n; position = k })
 
-abbrev pub rand_of : ℕ → ℕ → ℕ → Rand
-rand_of p lo hi = cond (eqb p 0) AnyDraw (Within (float_of lo) (float_of hi))
+abbrev pub rand_of : ℕ → ℕ → ℕ → Option Rand
+rand_of p lo hi = maybe_of p (record { lo = float_of lo; hi = float_of hi })
+
+-- the sample that a region's first word names, or silence
+abbrev pub sample_named : ℕ → Option ℕ
+sample_named w = cond (eqb w 0xffff_ffff) None (Some w)
 
 -- the k-th word of a region's words r, and the single there
 abbrev pub word : List ℕ → ℕ → ℕ
@@ -109,16 +106,15 @@ word r k = get_or r k 0
 abbrev pub single : List ℕ → ℕ → Float
 single r k = float_of (word r k)
 
-unfoldable pub crossfade_of : List ℕ → XfVel
+unfoldable pub crossfade_of : List ℕ → Option VelCrossfade
 crossfade_of r =
-    cond (eqb (word r 33) 0) NoCrossfade
-    (Crossfade (record {
+    maybe_of (word r 33) (record {
       in_lo = single r 34;
       in_hi = single r 35;
       out_lo = single r 36;
       out_hi = single r 37;
       gain_curve = not (eqb (word r 38) 0);
-    }))
+    })
 
 unfoldable pub envelope_of : List ℕ → Envelope
 envelope_of r = record {
@@ -230,7 +226,7 @@ choke_of r = record {
 -- the region that these words mean
 unfoldable pub region_of : List ℕ → Region
 region_of r = record {
-  sample = word r 0;
+  sample = sample_named (word r 0);
   window = window_of r;
   pitch = pitch_of r;
   play = playback_of r;

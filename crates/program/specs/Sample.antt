@@ -3,7 +3,8 @@ use Rattle.std.specs.Prelude.{ℕ, ◌+◌, ◌*◌, Bool, not, cond, List, [], 
 use Rattle.std.specs.Float.Ieee.{le}
 use Rattle.program.specs.declared.sample.Sample.{Sample}
 use Rattle.program.specs.Region.{float_of, word}
-use Rattle.program.specs.Valid.{every, is_finite, all_finite, not_above}
+use Rattle.std.specs.Float.{float_is_finite}
+use Rattle.program.specs.Valid.{every, all_finite, not_above}
 
 -- the sample whose words begin at `at`
 abbrev pub sample_of : List ℕ → ℕ → Sample
@@ -15,7 +16,7 @@ sample_at ss j = cond (leb (j * 4 + 4) (length ss)) (sample_of ss (j * 4)) (reco
 
 -- a positive finite rate, as `SamplePcm::new` asks, and at most 01's 768,000
 abbrev pub rate_tests : Float → List Bool
-rate_tests x = is_finite x ∷ not (le x (float_of 0)) ∷ not_above (float_of 0x493b_8000) x ∷ []
+rate_tests x = float_is_finite x ∷ not (le x (float_of 0)) ∷ not_above (float_of 0x493b_8000) x ∷ []
 
 -- What `SamplePcm::new` asks without looking at a frame, 01's limits on rate and frames, and that the frames are among those lent, of which
 -- there are `total`. The second channel's frames follow the first's.

@@ -1,11 +1,17 @@
 // Binding a program: 01's tests 1 to 4, and the program's share of its test 8.
-ghost use Rattle.std.specs.Prelude.{◌≡◌, true, map, ◌+◌, ◌*◌, ◌/◌, ◌≤◌, ◌<◌, length};
+ghost use Rattle.std.specs.Prelude.{◌≡◌, ◌/◌, true, find, not};
+ghost use Rattle.std.specs.List.{list_all, range_with_len};
 ghost use Rattle.program.specs.Valid.{every};
-ghost use Rattle.program.specs.Sample.{sample_at};
-ghost use Rattle.program.specs.Bind.{indexes, counts_in, region_in, sample_in, shape_in, first_bad, counts_ok, table_ok, answer_of, binding, program_ok};
+ghost use Rattle.program.specs.Bind.{counts_in, region_in, sample_in, shape_in, size_tests, counts_ok, table_ok, answer_of, binding, program_ok};
 
 use super::check::{counts_in, region_ok};
-use super::sample::{frames_finite, sample_at, sample_ok, shape_ok};
+use super::region::{REGION_WORDS, words_of};
+use super::sample::{SAMPLE_WORDS, all_finite, sample_at, sample_ok, shape_ok};
+
+// Regions of a program, and samples.
+const MAX_PARTS: usize = 256;
+// Entries of the sinc table.
+const TABLE_LEN: usize = 8194;
 
 // What binding makes of a program: how many regions, samples and frames it has. Nothing else is kept, so that a block finds again by the
 // same tests whether a bound program belongs to what it is lent.
@@ -17,125 +23,101 @@ pub struct BoundProgram {
 }
 
 // 01's numbers 1 to 4, the second and third with the first such region or sample.
-#[derive(Drop)]
-pub enum Bound {
-    Done(BoundProgram),
+#[derive(Clone, Copy, Debug, PartialEq, Eq)]
+pub enum BindError {
     Counts,
     BadRegion(u32),
     BadSample(u32),
     BadTable,
 }
 
-// Whether none of n regions has more than 6 filters, 6 bands or 128 velocity points.
-fn counts_ok(words: &[u32], n: usize) -> bool
-    requires { n * 392 ≤ length words.now }
-    ensures { result ≡ every (map (counts_in words.now) (indexes 0 n)) }
-{
-    let mut i: usize = 0;
-    while i < n {
-        let at = i * 392;
-        if !counts_in(&words[at..at + 392]) {
-            return false;
-        }
-        i += 1;
-    }
-    true
-}
-
-// The first of n regions that test 2 refuses where there are m samples, or n.
-fn first_bad_region(words: &[u32], n: usize, m: u32) -> usize
-    requires { (n * 392 ≤ length words.now) × (every (map (counts_in words.now) (indexes 0 n)) ≡ true) }
-    ensures { result ≡ first_bad (region_in words.now m) 0 n }
-{
-    let mut i: usize = 0;
-    while i < n {
-        let at = i * 392;
-        if !region_ok(&words[at..at + 392], m) {
-            return i;
-        }
-        i += 1;
-    }
-    i
-}
-
-// The first of n samples that test 3 refuses, or n.
-fn first_bad_sample(samples: &[u32], frames: &[f32], n: u32) -> u32
-    ensures { result ≡ first_bad (sample_in samples.now frames.now) 0 n }
-{
-    let mut j: u32 = 0;
-    while j < n {
-        let s = sample_at(samples, j);
-        if !sample_ok(s, frames) {
-            return j;
-        }
-        j += 1;
-    }
-    j
-}
-
-// The same without a look at the frames, of which there are `total`.
-fn first_bad_shape(samples: &[u32], total: usize, n: u32) -> u32
-    ensures { result ≡ first_bad (shape_in samples.now total) 0 n }
-{
-    let mut j: u32 = 0;
-    while j < n {
-        let s = sample_at(samples, j);
-        if !shape_ok(s, total) {
-            return j;
-        }
-        j += 1;
-    }
-    j
-}
-
+#[tactic(auto, unfolding(crate::specs::Bind::table_ok))]
 fn table_ok(table: &[f32]) -> bool
     ensures { result ≡ table_ok table.now }
 {
-    if table.len() != 8194 {
-        return false;
-    }
-    frames_finite(table, 0, 8194)
+    table.len() == TABLE_LEN && all_finite(table)
 }
 
-// Test 1, the number of regions being n and that of samples m.
-fn all_counts_ok(words: &[u32], samples: &[u32]) -> bool
+// Test 1: no more regions and samples than there may be, and no region with more than 6 filters, 6 bands or 128 velocity points.
+#[tactic(auto, unfolding(crate::specs::Bind::counts_ok))]
+fn counts_ok(words: &[u32], samples: &[u32]) -> bool
     ensures { result ≡ counts_ok words.now samples.now }
 {
-    let n = words.len() / 392;
-    if 256 < n {
-        return false;
-    }
-    if 256 < samples.len() / 4 {
-        return false;
-    }
-    counts_ok(words, n)
+    let n = words.len() / REGION_WORDS;
+    n <= MAX_PARTS
+        && samples.len() / SAMPLE_WORDS <= MAX_PARTS
+        && (0..n as u32).all(|i| counts_in(words_of(words, i)))
 }
 
-// Binds a program: the regions' words, the samples' words, the frames and the sinc table.
-pub fn bind(words: &[u32], samples: &[u32], frames: &[f32], table: &[f32]) -> Bound
+// The first of n regions, which pass test 1, that test 2 refuses where there are m samples.
+fn first_bad_region(words: &[u32], n: u32, m: u32) -> Option<u32>
+    requires { list_all (counts_in words.now) (range_with_len 0 n) ≡ true }
+    ensures { result ≡ find (λ i. not (region_in words.now m i)) (range_with_len 0 n) }
+{
+    (0..n).find(|i| !region_ok(words_of(words, *i), m))
+}
+
+// The first of n samples that test 3 refuses.
+fn first_bad_sample(samples: &[u32], frames: &[f32], n: u32) -> Option<u32>
+    ensures { result ≡ find (λ j. not (sample_in samples.now frames.now j)) (range_with_len 0 n) }
+{
+    (0..n).find(|j| !sample_ok(sample_at(samples, *j), frames))
+}
+
+// Binds a program: the regions' words, the samples' words, the frames and the sinc table, which C lends one by one.
+#[tactic(auto, unfolding(crate::specs::Bind::binding))]
+pub fn bind(
+    words: &[u32],
+    samples: &[u32],
+    frames: &[f32],
+    table: &[f32],
+) -> Result<BoundProgram, BindError>
     ensures { answer_of result ≡ binding words.now samples.now frames.now table.now }
 {
-    if !all_counts_ok(words, samples) {
-        return Bound::Counts;
+    if !counts_ok(words, samples) {
+        return Err(BindError::Counts);
     }
-    let n = words.len() / 392;
-    let m = (samples.len() / 4) as u32;
-    let i = first_bad_region(words, n, m);
-    if i < n {
-        return Bound::BadRegion(i as u32);
+    let n = (words.len() / REGION_WORDS) as u32;
+    let m = (samples.len() / SAMPLE_WORDS) as u32;
+    if let Some(i) = first_bad_region(words, n, m) {
+        return Err(BindError::BadRegion(i));
     }
-    let j = first_bad_sample(samples, frames, m);
-    if j < m {
-        return Bound::BadSample(j);
+    if let Some(j) = first_bad_sample(samples, frames, m) {
+        return Err(BindError::BadSample(j));
     }
     if !table_ok(table) {
-        return Bound::BadTable;
+        return Err(BindError::BadTable);
     }
-    Bound::Done(BoundProgram {
-        regions: n as u32,
+    Ok(BoundProgram {
+        regions: n,
         samples: m,
         frames: frames.len(),
     })
+}
+
+// Whether n regions, which pass test 1, pass test 2 where there are m samples.
+fn regions_ok(words: &[u32], n: u32, m: u32) -> bool
+    requires { list_all (counts_in words.now) (range_with_len 0 n) ≡ true }
+    ensures { result ≡ list_all (region_in words.now m) (range_with_len 0 n) }
+{
+    (0..n).all(|i| region_ok(words_of(words, i), m))
+}
+
+// Whether n samples pass test 3 without a look at the frames, of which there are `total`.
+fn shapes_ok(samples: &[u32], n: u32, total: usize) -> bool
+    ensures { result ≡ list_all (shape_in samples.now total) (range_with_len 0 n) }
+{
+    (0..n).all(|j| shape_ok(sample_at(samples, j), total))
+}
+
+// Whether as many words of regions and samples are lent as b has, and no fewer frames and entries of the table.
+fn sizes_ok(b: BoundProgram, words: usize, samples: usize, frames: usize, table: usize) -> bool
+    ensures { result ≡ every (size_tests b (words / 392) (samples / 4) frames table) }
+{
+    words / REGION_WORDS == (b.regions as usize)
+        && samples / SAMPLE_WORDS == (b.samples as usize)
+        && b.frames <= frames
+        && TABLE_LEN <= table
 }
 
 // The program's share of 01's test 8, on every block: whether binding makes b of these regions and samples, as far as their words show it,
@@ -149,25 +131,11 @@ pub fn program_ok(
 ) -> bool
     ensures { result ≡ program_ok b words.now samples.now frames table }
 {
-    let n = words.len() / 392;
-    let m = samples.len() / 4;
-    if n != (b.regions as usize) {
+    if !sizes_ok(b, words.len(), samples.len(), frames, table) {
         return false;
     }
-    if m != (b.samples as usize) {
+    if !counts_ok(words, samples) {
         return false;
     }
-    if frames < b.frames {
-        return false;
-    }
-    if table < 8194 {
-        return false;
-    }
-    if !all_counts_ok(words, samples) {
-        return false;
-    }
-    if first_bad_region(words, n, b.samples) < n {
-        return false;
-    }
-    first_bad_shape(samples, b.frames, b.samples) == b.samples
+    regions_ok(words, b.regions, b.samples) && shapes_ok(samples, b.samples, b.frames)
 }

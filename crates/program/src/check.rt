@@ -1,299 +1,223 @@
 // Test 2 of a binding, on one region's words: the Rust's `validate_region`, with the limits that 01 adds to it.
-ghost use Rattle.std.specs.Prelude.{◌≡◌, ◌+◌, ◌≤◌, ◌<◌, map, length, leb, [], ◌∷◌, pos, negsuc};
-ghost use Rattle.std.specs.Int.Signed.{le_z};
-ghost use Rattle.program.specs.Region.{byte_of, float_of, signed_of, word, loop_points_of, seq_of, rand_of, crossfade_of, region_of};
-ghost use Rattle.program.specs.Valid.{every, all_finite, run, window_tests, keys_tests, sample_known, loop_in_order, seq_in_turn, rand_numbers, crossfade_numbers, filters_finite, bands_finite, not_above, within, times_tests, pitch_tests, point_tests, number_tests, valid_region, counts_tests, CountsIn};
+ghost use Rattle.std.specs.Prelude.{◌≡◌, ◌&&◌, ◌≤◌, map, leb, take, drop};
+ghost use Rattle.std.specs.List.{list_all};
+ghost use Rattle.program.specs.Region.{byte_of, float_of, signed_of, word, sample_named, region_of};
+ghost use Rattle.program.specs.Valid.{every, all_finite, window_tests, keys_tests, sample_known, loop_in_order, seq_in_turn, constants, rand_numbers, crossfade_numbers, filters_finite, bands_finite, not_above, within, times_tests, transpose_tests, pitch_tests, point_tests, limit_tests, chosen_tests, number_tests, place_tests, valid_region, counts_tests};
 
-use super::region::{byte_of, float_of, signed_of};
+use super::region::{REGION_WORDS, byte_of, float_of, sample_named, signed_of};
 
-// Whether the n words from `at` on are finite singles: the largest magnitude decides, so that the loop has no branch.
-fn finite_run(r: &[u32], at: usize, n: usize) -> bool
-    requires { at + n ≤ length r.now }
-    ensures { result ≡ all_finite (map float_of (run r.now at n)) }
+// Whether the words are finite singles: the largest magnitude decides, so that the loop has no branch.
+fn all_finite(words: &[u32]) -> bool
+    ensures { result ≡ all_finite (map float_of words.now) }
 {
-    let mut worst: u32 = 0;
-    let mut k: usize = 0;
-    while k < n {
-        let w = r[at + k] % 0x8000_0000;
-        if worst < w {
-            worst = w;
-        }
-        k += 1;
-    }
-    worst < 0x7f80_0000
+    words
+        .iter()
+        .fold(0, |worst: u32, w| worst.max(*w % 0x8000_0000))
+        < 0x7f80_0000
 }
 
-// Whether no byte of the n words from `at` on is above 127.
-fn keys_run(r: &[u32], at: usize, n: usize) -> bool
-    requires { at + n ≤ length r.now }
-    ensures { result ≡ every (map (λ v. leb v 127) (map byte_of (run r.now at n))) }
+// Whether no byte of the words is above 127: the same walk, but it is no plainer with the measure and the limit as parameters.
+fn all_keys(words: &[u32]) -> bool
+    ensures { result ≡ list_all (λ v. leb v 127) (map byte_of words.now) }
 {
-    let mut worst: u32 = 0;
-    let mut k: usize = 0;
-    while k < n {
-        let w = r[at + k];
-        if worst < w {
-            worst = w;
-        }
-        k += 1;
-    }
-    worst < 128
+    words.iter().fold(0, |worst: u32, w| worst.max(*w)) < 128
 }
 
 // No window empty.
-fn windows_ok(r: &[u32]) -> bool
-    requires { length r.now ≡ 392 }
+#[tactic(auto, unfolding(crate::specs::Region::region_of, crate::specs::Region::window_of))]
+fn windows_ok(r: &[u32; REGION_WORDS]) -> bool
     ensures { result ≡ every (window_tests (region_of r.now)) }
 {
-    let lo = byte_of(r[1]);
-    let hi = byte_of(r[2]);
-    if hi < lo {
-        return false;
-    }
-    let soft = byte_of(r[3]);
-    let loud = byte_of(r[4]);
-    soft <= loud
+    byte_of(r[1]) <= byte_of(r[2]) && byte_of(r[3]) <= byte_of(r[4])
 }
 
 // No key and no velocity above 127, no window empty.
-fn keys_ok(r: &[u32]) -> bool
-    requires { length r.now ≡ 392 }
+#[tactic(auto, using(crate::proofs::Checks::keys_are))]
+fn keys_ok(r: &[u32; REGION_WORDS]) -> bool
     ensures { result ≡ every (keys_tests (region_of r.now)) }
 {
-    if !keys_run(r, 1, 5) {
-        return false;
-    }
-    windows_ok(r)
+    all_keys(&r[1..6]) && windows_ok(r)
 }
 
 // Silence, or one of n samples.
 fn sample_ok(s: u32, n: u32) -> bool
-    ensures { result ≡ sample_known n s }
+    ensures { result ≡ sample_known n (sample_named s) }
 {
-    if s == 0xffff_ffff {
-        return true;
-    }
-    s < n
+    sample_named(s).is_none_or(|j| j < n)
 }
 
-fn loop_ok(r: &[u32]) -> bool
-    requires { length r.now ≡ 392 }
-    ensures { result ≡ loop_in_order (loop_points_of (word r.now 12) (word r.now 13) (word r.now 14)) }
+#[tactic(auto, unfolding(crate::specs::Region::region_of, crate::specs::Region::playback_of))]
+fn loop_ok(r: &[u32; REGION_WORDS]) -> bool
+    ensures { result ≡ loop_in_order (region_of r.now).play.loop_points }
 {
-    if r[12] == 0 {
-        return true;
-    }
-    r[13] <= r[14]
+    r[12] == 0 || r[13] <= r[14]
 }
 
-fn seq_ok(r: &[u32]) -> bool
-    requires { length r.now ≡ 392 }
-    ensures { result ≡ seq_in_turn (seq_of (word r.now 15) (word r.now 16) (word r.now 17)) }
+#[tactic(auto, unfolding(crate::specs::Region::region_of, crate::specs::Region::choice_of))]
+fn seq_ok(r: &[u32; REGION_WORDS]) -> bool
+    ensures { result ≡ seq_in_turn (region_of r.now).chosen.seq }
 {
-    if r[15] == 0 {
-        return true;
-    }
-    if r[17] == 0 {
-        return false;
-    }
-    r[17] <= r[16]
+    r[15] == 0 || (0 < r[17] && r[17] <= r[16])
 }
 
-fn rand_ok(r: &[u32]) -> bool
-    requires { length r.now ≡ 392 }
-    ensures { result ≡ all_finite (rand_numbers (rand_of (word r.now 30) (word r.now 31) (word r.now 32))) }
+#[tactic(auto, using(crate::proofs::Checks::rand_are), unfolding(crate::specs::Region::region_of, crate::specs::Region::choice_of))]
+fn rand_ok(r: &[u32; REGION_WORDS]) -> bool
+    ensures { result ≡ all_finite (rand_numbers (region_of r.now).chosen.rand) }
 {
-    if r[30] == 0 {
-        return true;
-    }
-    finite_run(r, 31, 2)
+    r[30] == 0 || all_finite(&r[31..33])
 }
 
-fn crossfade_ok(r: &[u32]) -> bool
-    requires { length r.now ≡ 392 }
-    ensures { result ≡ all_finite (crossfade_numbers (crossfade_of r.now)) }
+#[tactic(auto, using(crate::proofs::Checks::crossfade_are), unfolding(crate::specs::Region::region_of, crate::specs::Region::level_of, crate::specs::Region::crossfade_of))]
+fn crossfade_ok(r: &[u32; REGION_WORDS]) -> bool
+    ensures { result ≡ all_finite (crossfade_numbers (region_of r.now).level.xf_vel) }
 {
-    if r[33] == 0 {
-        return true;
-    }
-    finite_run(r, 34, 4)
+    r[33] == 0 || all_finite(&r[34..38])
 }
 
-fn filters_ok(r: &[u32]) -> bool
-    requires { (length r.now ≡ 392) × (word r.now 27 ≤ 6) }
+// Whether the first `count` filters have finite numbers, which stand behind a filter's kind and key.
+fn filters_finite(filters: &[[u32; 7]], count: u32) -> bool
+    ensures { result ≡ list_all (λ f. all_finite (map float_of (take 5 (drop 2 f)))) (take count filters.now) }
+{
+    filters
+        .iter()
+        .take(count as usize)
+        .all(|f| all_finite(&f[2..]))
+}
+
+#[tactic(auto, using(crate::proofs::Checks::filters_are))]
+fn filters_ok(r: &[u32; REGION_WORDS]) -> bool
     ensures { result ≡ filters_finite (region_of r.now) }
 {
-    let n = r[27];
-    let mut at: usize = 58;
-    let mut k: u32 = 0;
-    while k < n {
-        if !finite_run(r, at + 2, 5) {
-            return false;
-        }
-        at += 7;
-        k += 1;
-    }
-    true
+    filters_finite(r[58..100].as_chunks().0, r[27])
 }
 
-fn bands_ok(r: &[u32]) -> bool
-    requires { (length r.now ≡ 392) × (word r.now 28 ≤ 6) }
+// Whether the first `count` bands have finite numbers, which stand behind a band's kind. One function for parts of N words was tried, and
+// its proof didn't close: a closure on `[u32; N]` has no contract that is read off its body.
+fn bands_finite(bands: &[[u32; 6]], count: u32) -> bool
+    ensures { result ≡ list_all (λ b. all_finite (map float_of (take 5 (drop 1 b)))) (take count bands.now) }
+{
+    bands
+        .iter()
+        .take(count as usize)
+        .all(|b| all_finite(&b[1..]))
+}
+
+#[tactic(auto, using(crate::proofs::Checks::bands_are))]
+fn bands_ok(r: &[u32; REGION_WORDS]) -> bool
     ensures { result ≡ bands_finite (region_of r.now) }
 {
-    let n = r[28];
-    let mut at: usize = 100;
-    let mut k: u32 = 0;
-    while k < n {
-        if !finite_run(r, at + 1, 5) {
-            return false;
-        }
-        at += 6;
-        k += 1;
-    }
-    true
+    bands_finite(r[100..136].as_chunks().0, r[28])
 }
 
-// Whether the time with these bits is at most 3,600 s (a NaN is refused elsewhere).
-fn time_ok(w: u32) -> bool
-    ensures { result ≡ not_above (float_of 0x4561_0000) (float_of w) }
+// Whether the times with these bits are at most 3,600 s (a NaN is refused elsewhere).
+fn all_in_time(words: &[u32]) -> bool
+    ensures { result ≡ list_all (λ w. not_above (float_of 0x4561_0000) (float_of w)) words.now }
 {
-    !(3600.0 < float_of(w))
+    words.iter().all(|w| !(3600.0 < float_of(*w)))
 }
 
-fn times_ok(r: &[u32]) -> bool
-    requires { length r.now ≡ 392 }
+#[tactic(auto, using(crate::proofs::Checks::times_are))]
+fn times_ok(r: &[u32; REGION_WORDS]) -> bool
     ensures { result ≡ every (times_tests (region_of r.now)) }
 {
-    let mut k: usize = 43;
-    while k < 50 {
-        if !time_ok(r[k]) {
-            return false;
-        }
-        k += 1;
-    }
-    true
+    all_in_time(&r[43..50])
 }
 
-fn within_1200(w: u32) -> bool
-    ensures { result ≡ within (float_of 0x4496_0000) (float_of w) }
+// Whether the single with these bits is at most the limit away from 0 (a NaN is refused elsewhere).
+fn within(limit: f32, w: u32) -> bool
+    ensures { result ≡ within limit (float_of w) }
 {
     let x = float_of(w);
-    if x < -1200.0 {
-        return false;
-    }
-    !(1200.0 < x)
-}
-
-fn within_9600(w: u32) -> bool
-    ensures { result ≡ within (float_of 0x4616_0000) (float_of w) }
-{
-    let x = float_of(w);
-    if x < -9600.0 {
-        return false;
-    }
-    !(9600.0 < x)
+    !(x < -limit) && !(limit < x)
 }
 
 fn transpose_ok(w: u32) -> bool
-    ensures { result ≡ every (le_z (negsuc 126) (signed_of w) ∷ le_z (signed_of w) (pos 127) ∷ []) }
+    ensures { result ≡ every (transpose_tests (signed_of w)) }
 {
     let t = signed_of(w);
-    if !(-127 <= t) {
-        return false;
-    }
-    t <= 127
+    -127 <= t && t <= 127
 }
 
-fn pitch_ok(r: &[u32]) -> bool
-    requires { length r.now ≡ 392 }
+#[tactic(auto, unfolding(crate::specs::Valid::pitch_tests, crate::specs::Region::region_of, crate::specs::Region::pitch_of))]
+fn pitch_ok(r: &[u32; REGION_WORDS]) -> bool
     ensures { result ≡ every (pitch_tests (region_of r.now)) }
 {
-    if !within_1200(r[39]) {
-        return false;
-    }
-    if !within_9600(r[40]) {
-        return false;
-    }
-    if !within_9600(r[41]) {
-        return false;
-    }
-    if !within_9600(r[42]) {
-        return false;
-    }
-    transpose_ok(r[6])
+    within(1200.0, r[39])
+        && within(9600.0, r[40])
+        && within(9600.0, r[41])
+        && within(9600.0, r[42])
+        && transpose_ok(r[6])
 }
 
 // Test 1 of one region: at most 6 filters, 6 bands and 128 velocity points.
-pub(crate) fn counts_in(r: &[u32]) -> bool
-    requires { length r.now ≡ 392 }
+pub(crate) fn counts_in(r: &[u32; REGION_WORDS]) -> bool
     ensures { result ≡ every (counts_tests r.now) }
 {
-    if 6 < r[27] {
-        return false;
-    }
-    if 6 < r[28] {
-        return false;
-    }
-    r[29] <= 128
+    r[27] <= 6 && r[28] <= 6 && r[29] <= 128
 }
 
 // The velocity points: no velocity above 127, every gain finite.
-fn points_ok(r: &[u32]) -> bool
-    requires { (length r.now ≡ 392) × (word r.now 29 ≤ 128) }
+#[tactic(auto, using(crate::proofs::Checks::points_are))]
+fn points_ok(r: &[u32; REGION_WORDS]) -> bool
+    requires { word r.now 29 ≤ 128 }
     ensures { result ≡ every (point_tests r.now) }
 {
     let n = r[29] as usize;
-    if !keys_run(r, 136, n) {
-        return false;
-    }
-    finite_run(r, 264, n)
+    all_keys(&r[136..136 + n]) && all_finite(&r[264..264 + n])
 }
 
-// The other numbers: finite, and within the limits that 01 adds.
-fn numbers_ok(r: &[u32]) -> bool
-    requires { (length r.now ≡ 392) × CountsIn r.now }
+// The numbers that every region has.
+#[tactic(auto, using(crate::proofs::Checks::constants_are))]
+fn constants_ok(r: &[u32; REGION_WORDS]) -> bool
+    ensures { result ≡ all_finite (constants (region_of r.now)) }
+{
+    all_finite(&r[39..58])
+}
+
+// The limits that 01 adds.
+#[tactic(auto, unfolding(crate::specs::Valid::limit_tests))]
+fn limits_ok(r: &[u32; REGION_WORDS]) -> bool
+    ensures { result ≡ every (limit_tests (region_of r.now)) }
+{
+    times_ok(r) && pitch_ok(r)
+}
+
+// The numbers that stand in the words where others say so.
+#[tactic(auto, unfolding(crate::specs::Valid::chosen_tests))]
+fn chosen_ok(r: &[u32; REGION_WORDS]) -> bool
+    ensures { result ≡ every (chosen_tests (region_of r.now)) }
+{
+    rand_ok(r) && crossfade_ok(r) && filters_ok(r) && bands_ok(r)
+}
+
+// The other numbers: finite, and within the limits.
+#[tactic(auto, unfolding(crate::specs::Valid::number_tests))]
+fn numbers_ok(r: &[u32; REGION_WORDS]) -> bool
     ensures { result ≡ every (number_tests (region_of r.now)) }
 {
-    if !finite_run(r, 39, 19) {
-        return false;
-    }
-    if !rand_ok(r) {
-        return false;
-    }
-    if !crossfade_ok(r) {
-        return false;
-    }
-    if !filters_ok(r) {
-        return false;
-    }
-    if !bands_ok(r) {
-        return false;
-    }
-    if !times_ok(r) {
-        return false;
-    }
-    pitch_ok(r)
+    constants_ok(r) && chosen_ok(r) && limits_ok(r)
 }
 
-// Whether the region with these words may be bound where there are n samples.
-pub(crate) fn region_ok(r: &[u32], n: u32) -> bool
-    requires { (length r.now ≡ 392) × CountsIn r.now }
+// What the region plays of its sample, and its turn among others.
+#[tactic(auto, unfolding(crate::specs::Valid::place_tests, crate::specs::Region::region_of))]
+fn places_ok(r: &[u32; REGION_WORDS], n: u32) -> bool
+    ensures { result ≡ every (place_tests n (region_of r.now)) }
+{
+    sample_ok(r[0], n) && loop_ok(r) && seq_ok(r)
+}
+
+// Test 2 of a region that passes test 1, where there are n samples.
+#[tactic(auto, unfolding(crate::specs::Valid::valid_region))]
+fn is_valid(r: &[u32; REGION_WORDS], n: u32) -> bool
+    requires { word r.now 29 ≤ 128 }
     ensures { result ≡ valid_region n r.now }
 {
-    if !keys_ok(r) {
-        return false;
-    }
-    if !sample_ok(r[0], n) {
-        return false;
-    }
-    if !loop_ok(r) {
-        return false;
-    }
-    if !seq_ok(r) {
-        return false;
-    }
-    if !points_ok(r) {
-        return false;
-    }
-    numbers_ok(r)
+    keys_ok(r) && places_ok(r, n) && points_ok(r) && numbers_ok(r)
+}
+
+// Whether the region with these words passes test 1 and may be bound where there are n samples.
+pub(crate) fn region_ok(r: &[u32; REGION_WORDS], n: u32) -> bool
+    ensures { result ≡ (every (counts_tests r.now) && valid_region n r.now) }
+{
+    counts_in(r) && is_valid(r, n)
 }

@@ -1,110 +1,110 @@
 // A region's velocity curve: an entry of the Rust's `velcurve_table`, found in one pass over the points.
-ghost use Rattle.std.specs.Prelude.{◌≡◌, ◌&&◌, ◌+◌, ◌*◌, ◌≤◌, ◌<◌, min, length, leb};
-ghost use Rattle.program.specs.Curve.{points_of, near_step, near_of, near_first, side_step, linear, velcurve_at};
+ghost use Rattle.std.specs.Prelude.{◌≡◌, ◌&&◌, ◌≤◌, fold, min, leb};
+ghost use Rattle.std.specs.List.{zip};
+ghost use Rattle.program.specs.Curve.{points_of, point_of_words, near_step, near_of, near_first, linear, velcurve_at};
 
-use super::region::float_of;
+use super::region::{REGION_WORDS, float_of, words_of};
+
+// Velocity points that a region has words for.
+const MAX_POINTS: u32 = 128;
 
 // A velocity and its gain.
 #[derive(Clone, Copy)]
-pub struct Side {
-    pub at: u8,
+pub struct Point {
+    pub velocity: u8,
     pub gain: f32,
 }
 
 // The points nearest to a velocity, from below and from above.
 #[derive(Drop)]
 pub struct Near {
-    pub lo: Side,
-    pub hi: Side,
+    pub lo: Point,
+    pub hi: Point,
+}
+
+// A velocity above 127 counts as 127.
+fn point_of(velocity: u32, gain: u32) -> Point
+    ensures { result ≡ point_of_words velocity gain }
+{
+    Point {
+        velocity: velocity.min(127) as u8,
+        gain: float_of(gain),
+    }
 }
 
 // Whether a <= b <= c.
 fn between(a: u8, b: u8, c: u8) -> bool
     ensures { result ≡ (leb a b && leb b c) }
 {
-    if b < a {
-        return false;
+    a <= b && b <= c
+}
+
+// With the point in the place of those that it is nearer than.
+#[tactic(auto, unfolding(crate::specs::Curve::near_step))]
+fn near_step(v: u8, s: Near, p: Point) -> Near
+    ensures { result ≡ near_step v s p }
+{
+    let Near { lo, hi } = s;
+    Near {
+        lo: if between(lo.velocity, p.velocity, v) {
+            p
+        } else {
+            lo
+        },
+        hi: if between(v, p.velocity, hi.velocity) {
+            p
+        } else {
+            hi
+        },
     }
-    b <= c
-}
-
-// The velocity of a point's word; above 127 it counts as 127.
-fn velocity_of(w: u32) -> u8
-    ensures { result ≡ min w 127 }
-{
-    if w < 127 { w as u8 } else { 127 }
-}
-
-fn point_count(w: u32) -> usize
-    ensures { result ≡ min w 128 }
-{
-    if w < 128 { w as usize } else { 128 }
-}
-
-// The point, where it is nearer.
-fn side_step(nearer: bool, k: u8, g: f32, s: Side) -> Side
-    ensures { result ≡ side_step nearer (record { velocity = k; gain = g }) s }
-{
-    if nearer { Side { at: k, gain: g } } else { s }
-}
-
-fn near_step(v: u8, s: Near, k: u8, g: f32) -> Near
-    ensures { result ≡ near_step v s (record { velocity = k; gain = g }) }
-{
-    let below = s.lo;
-    let above = s.hi;
-    let lo = side_step(between(below.at, k, v), k, g, below);
-    let hi = side_step(between(v, k, above.at), k, g, above);
-    Near { lo, hi }
 }
 
 // Before any point: velocities 0 and 127 have their gains.
 fn near_first(v: u8) -> Near
     ensures { result ≡ near_first v }
 {
-    let silent = Side { at: 0, gain: 0.0 };
-    let loud = Side { at: 127, gain: 1.0 };
-    if v == 0 {
-        return Near {
-            lo: silent,
-            hi: silent,
-        };
-    }
-    if v == 127 {
-        return Near { lo: loud, hi: loud };
-    }
+    let silent = Point {
+        velocity: 0,
+        gain: 0.0,
+    };
+    let loud = Point {
+        velocity: 127,
+        gain: 1.0,
+    };
     Near {
-        lo: silent,
-        hi: loud,
+        lo: if v == 127 { loud } else { silent },
+        hi: if v == 0 { silent } else { loud },
     }
 }
 
+// The points nearest to v, of those with these velocities and gains.
+fn nearest_of(velocities: &[u32], gains: &[u32], v: u8) -> Near
+    ensures { result ≡ fold (λ s p. near_step v s (point_of_words p.0 p.1)) (near_first v) (zip velocities.now gains.now) }
+{
+    velocities.iter().zip(gains).fold(
+        near_first(v),
+        |s, (velocity, gain)| near_step(v, s, point_of(*velocity, *gain)),
+    )
+}
+
 // The points nearest to v, of a region's words.
-fn nearest(r: &[u32], v: u8) -> Near
-    requires { length r.now ≡ 392 }
+fn nearest(r: &[u32; REGION_WORDS], v: u8) -> Near
     ensures { result ≡ near_of v (near_first v) (points_of r.now) }
 {
-    let n = point_count(r[29]);
-    let mut s = near_first(v);
-    let mut k: usize = 0;
-    while k < n {
-        s = near_step(v, s, velocity_of(r[136 + k]), float_of(r[264 + k]));
-        k += 1;
-    }
-    s
+    let n = r[29].min(MAX_POINTS) as usize;
+    nearest_of(&r[136..136 + n], &r[264..264 + n], v)
 }
 
 // Between the two nearest points, in singles.
 fn blend(s: Near, v: u8) -> f32
-    requires { (s.lo.at ≤ v) × (v ≤ s.hi.at) }
-    ensures { result ≡ linear s.lo.at s.lo.gain s.hi.at s.hi.gain v }
+    requires { (s.lo.velocity ≤ v) × (v ≤ s.hi.velocity) }
+    ensures { result ≡ linear s.lo s.hi v }
 {
-    let lo = s.lo;
-    let hi = s.hi;
-    if lo.at == hi.at {
+    let Near { lo, hi } = s;
+    if lo.velocity == hi.velocity {
         return lo.gain;
     }
-    let t = ((v - lo.at) as f32) / ((hi.at - lo.at) as f32);
+    let t = ((v - lo.velocity) as f32) / ((hi.velocity - lo.velocity) as f32);
     lo.gain + t * (hi.gain - lo.gain)
 }
 
@@ -112,13 +112,6 @@ fn blend(s: Near, v: u8) -> f32
 pub fn velcurve(words: &[u32], i: u32, vel: u8) -> f32
     ensures { result ≡ velcurve_at words.now i vel }
 {
-    let v = velocity_of(vel as u32);
-    let at = (i as usize) * 392;
-    if at + 392 <= words.len() {
-        let s = nearest(&words[at..at + 392], v);
-        return blend(s, v);
-    }
-    let zeros = [0u32; 392];
-    let s = nearest(&zeros, v);
-    blend(s, v)
+    let v = vel.min(127);
+    blend(nearest(words_of(words, i), v), v)
 }

@@ -1,66 +1,33 @@
 // Lookup in a bound program: the Rust's `regions_for_key`, `sample_of` and `has_release_for`.
-ghost use Rattle.std.specs.Prelude.{◌≡◌, ◌&&◌, ◌+◌, ◌*◌, ◌<◌, min};
+ghost use Rattle.std.specs.Prelude.{◌≡◌};
 ghost use Rattle.program.specs.Region.{region_at};
 ghost use Rattle.program.specs.Lookup.{holds_key, regions_from, first_of, is_release, releases, has_release_for, sample_of_region};
 
-use super::region::{Choice, Trigger, Window, choice_of, window_of};
-use super::sample::{Sample, sample_at};
-
-#[derive(Drop)]
-pub enum Found {
-    At(u32),
-    Nothing,
-}
-
-#[derive(Drop)]
-pub enum SampleOf {
-    Silence,
-    Plays(Sample),
-}
+use super::region::{Choice, Trigger, Window, choice_of, sample_named, window_of, words_of};
+use super::sample::{SAMPLE_WORDS, Sample, sample_at};
 
 // Region i's windows, without the rest of the region.
+#[tactic(auto, unfolding(crate::specs::Region::region_of))]
 pub fn window_at(words: &[u32], i: u32) -> Window
     ensures { result ≡ (region_at words.now i).window }
 {
-    let at = (i as usize) * 392;
-    if at + 392 <= words.len() {
-        return window_of(&words[at..at + 392]);
-    }
-    Window {
-        lokey: 0,
-        hikey: 0,
-        lovel: 0,
-        hivel: 0,
-    }
+    window_of(words_of(words, i))
 }
 
 // When a note starts region i, without the rest of the region.
+#[tactic(auto, unfolding(crate::specs::Region::region_of))]
 pub fn choice_at(words: &[u32], i: u32) -> Choice
     ensures { result ≡ (region_at words.now i).chosen }
 {
-    let at = (i as usize) * 392;
-    if at + 392 <= words.len() {
-        return choice_of(&words[at..at + 392]);
-    }
-    let zeros = [0u32; 392];
-    choice_of(&zeros)
+    choice_of(words_of(words, i))
 }
 
-// The word that names region i's sample.
-pub fn sample_index(words: &[u32], i: u32) -> u32
+// The number of region i's sample, without the rest of the region.
+#[tactic(auto, unfolding(crate::specs::Region::region_of))]
+pub fn sample_index(words: &[u32], i: u32) -> Option<u32>
     ensures { result ≡ (region_at words.now i).sample }
 {
-    let at = (i as usize) * 392;
-    if at + 392 <= words.len() {
-        return words[at];
-    }
-    0
-}
-
-fn key_of(key: u8) -> u8
-    ensures { result ≡ min key 127 }
-{
-    if key < 127 { key } else { 127 }
+    sample_named(words_of(words, i)[0])
 }
 
 // Whether region i's key window holds the key; a key above 127 counts as 127.
@@ -68,88 +35,45 @@ pub fn holds_key(words: &[u32], key: u8, i: u32) -> bool
     ensures { result ≡ holds_key words.now key i }
 {
     let w = window_at(words, i);
-    let k = key_of(key);
-    if k < w.lokey {
-        return false;
-    }
-    k <= w.hikey
+    let k = key.min(127);
+    w.lokey <= k && k <= w.hikey
 }
 
 // The next of n regions, from `from` on, whose key window holds the key. Stepping it from 0 meets the Rust's `regions_for_key` in order.
-pub fn next_for_key(words: &[u32], n: u32, key: u8, from: u32) -> Found
+pub fn next_for_key(words: &[u32], n: u32, key: u8, from: u32) -> Option<u32>
     ensures { result ≡ first_of (regions_from words.now n key from) }
 {
-    let mut i = from;
-    while i < n {
-        if holds_key(words, key, i) {
-            return Found::At(i);
-        }
-        i += 1;
-    }
-    Found::Nothing
+    (from..n).find(|i| holds_key(words, key, *i))
 }
 
 fn is_release(t: Trigger) -> bool
     ensures { result ≡ is_release t }
 {
-    match t {
-        Trigger::Attack => false,
-        Trigger::Release => true,
-        Trigger::ReleaseKey => true,
-        Trigger::First => false,
-        Trigger::Legato => false,
-    }
+    matches!(t, Trigger::Release | Trigger::ReleaseKey)
 }
 
 // Whether region i is a release region whose velocity window holds the velocity.
 fn releases_at(words: &[u32], vel: u8, i: u32) -> bool
     ensures { result ≡ releases words.now vel i }
 {
-    let x = choice_at(words, i);
-    let t = x.trigger;
-    if !is_release(t) {
-        return false;
-    }
     let w = window_at(words, i);
-    if vel < w.lovel {
-        return false;
-    }
-    vel <= w.hivel
-}
-
-fn fires(words: &[u32], key: u8, vel: u8, i: u32) -> bool
-    ensures { result ≡ (holds_key words.now key i && releases words.now vel i) }
-{
-    if !holds_key(words, key, i) {
-        return false;
-    }
-    releases_at(words, vel, i)
+    is_release(choice_at(words, i).trigger) && w.lovel <= vel && vel <= w.hivel
 }
 
 // Whether some release region of n could start for the key and the velocity.
 pub fn has_release_for(words: &[u32], n: u32, key: u8, vel: u8) -> bool
     ensures { result ≡ has_release_for words.now n key vel }
 {
-    let mut i: u32 = 0;
-    while i < n {
-        if fires(words, key, vel, i) {
-            return true;
-        }
-        i += 1;
-    }
-    false
+    (0..n).any(|i| holds_key(words, key, i) && releases_at(words, vel, i))
 }
 
 // The sample that region i reads. Silence, and an index outside the table, read none.
-pub fn sample_of(words: &[u32], samples: &[u32], i: u32) -> SampleOf
+#[tactic(auto, unfolding(crate::specs::Lookup::sample_of_region))]
+pub fn sample_of(words: &[u32], samples: &[u32], i: u32) -> Option<Sample>
     ensures { result ≡ sample_of_region words.now samples.now i }
 {
-    let s = sample_index(words, i);
-    if s == 0xffff_ffff {
-        return SampleOf::Silence;
+    match sample_index(words, i) {
+        Some(j) if (j as usize) < samples.len() / SAMPLE_WORDS => Some(sample_at(samples, j)),
+        _ => None,
     }
-    if samples.len() / 4 <= (s as usize) {
-        return SampleOf::Silence;
-    }
-    SampleOf::Plays(sample_at(samples, s))
 }

@@ -1,10 +1,12 @@
 // A region's 392 words and the region that they mean. Names and order of the enums are those of the Rust's `program.rs`.
-ghost use Rattle.std.specs.Prelude.{◌≡◌, ◌+◌, ◌*◌, ◌≤◌, ◌<◌, length};
-ghost use Rattle.program.specs.Region.{word, single, float_of, signed_of, byte_of, loop_mode_of, loop_source_of, trigger_of, off_mode_of, filter_kind_of, eq_kind_of, maybe_of, off_by_of, loop_points_of, seq_of, rand_of, crossfade_of, envelope_of, filter_of, filters_of, band_of, bands_of, window_of, pitch_of, playback_of, level_of, choice_of, choke_of, region_of, region_at};
+ghost use Rattle.std.specs.Prelude.{◌≡◌, ◌+◌, ◌≤◌, ◌<◌, get_or};
+ghost use Rattle.program.specs.Region.{word, single, float_of, signed_of, byte_of, maybe_of, sample_named, crossfade_of, envelope_of, filter_of, filters_of, band_of, bands_of, window_of, pitch_of, playback_of, level_of, choice_of, choke_of, region_of, words_of, region_at};
+
+use exact::order::from_bits_f32;
 
 // Words of one region.
 pub const REGION_WORDS: usize = 392;
-// `sample` of a region that plays nothing.
+// The word in a sample's place of a region that plays nothing.
 pub const SILENCE: u32 = 0xffff_ffff;
 
 #[derive(Clone, Copy)]
@@ -63,35 +65,25 @@ pub enum EqKind {
     HighShelf,
 }
 
-// The Rust's `Option<u32>`.
+// The first and the last frame of a loop.
 #[derive(Clone, Copy)]
-pub enum MaybeU32 {
-    Absent,
-    Present(u32),
+pub struct LoopPoints {
+    pub start: u32,
+    pub end: u32,
 }
 
+// The place of a region among those that start in turn, counted from 1.
 #[derive(Clone, Copy)]
-pub enum OffBy {
-    Nobody,
-    Group(i32),
+pub struct Seq {
+    pub length: u32,
+    pub position: u32,
 }
 
+// The draws that start a region: from `lo` up to, and without, `hi`.
 #[derive(Clone, Copy)]
-pub enum LoopPoints {
-    Unlooped,
-    Looped { start: u32, end: u32 },
-}
-
-#[derive(Clone, Copy)]
-pub enum Seq {
-    EveryTime,
-    InTurn { length: u32, position: u32 },
-}
-
-#[derive(Clone, Copy)]
-pub enum Rand {
-    AnyDraw,
-    Within { lo: f32, hi: f32 },
+pub struct Rand {
+    pub lo: f32,
+    pub hi: f32,
 }
 
 #[derive(Clone, Copy)]
@@ -102,12 +94,6 @@ pub struct VelCrossfade {
     pub out_hi: f32,
     // True for the `gain` curve, false for `power`.
     pub gain_curve: bool,
-}
-
-#[derive(Clone, Copy)]
-pub enum XfVel {
-    NoCrossfade,
-    Crossfade(VelCrossfade),
 }
 
 #[derive(Clone, Copy)]
@@ -166,10 +152,10 @@ pub struct Pitch {
 #[derive(Clone, Copy)]
 pub struct Playback {
     pub offset_frames: u32,
-    pub end_frames: MaybeU32,
+    pub end_frames: Option<u32>,
     pub loop_mode: LoopMode,
     pub loop_source: LoopSource,
-    pub loop_points: LoopPoints,
+    pub loop_points: Option<LoopPoints>,
     pub delay_s: f32,
 }
 
@@ -182,7 +168,7 @@ pub struct Level {
     pub width: f32,
     pub amp_veltrack: f32,
     pub velcurve_count: u32,
-    pub xf_vel: XfVel,
+    pub xf_vel: Option<VelCrossfade>,
     pub rt_decay_db_per_s: f32,
 }
 
@@ -190,25 +176,25 @@ pub struct Level {
 #[derive(Clone, Copy)]
 pub struct Choice {
     pub trigger: Trigger,
-    pub seq: Seq,
-    pub rand: Rand,
+    pub seq: Option<Seq>,
+    pub rand: Option<Rand>,
 }
 
 // What marks and what it marks.
 #[derive(Clone, Copy)]
 pub struct Choke {
     pub group: i32,
-    pub off_by: OffBy,
+    pub off_by: Option<i32>,
     pub off_mode: OffMode,
     pub off_time: f32,
-    pub note_polyphony: MaybeU32,
-    pub polyphony: MaybeU32,
+    pub note_polyphony: Option<u32>,
+    pub polyphony: Option<u32>,
 }
 
-// The Rust's `Region`, its fields in groups. A `Vec` is a count and places.
+// The Rust's `Region`, its fields in groups. A `Vec` is a count and places. A region without a sample plays nothing.
 #[derive(Clone, Copy)]
 pub struct Region {
-    pub sample: u32,
+    pub sample: Option<u32>,
     pub window: Window,
     pub pitch: Pitch,
     pub play: Playback,
@@ -226,198 +212,118 @@ pub struct Region {
 pub fn float_of(w: u32) -> f32
     ensures { result ≡ float_of w }
 {
-    if 0x7f80_0000 < w % 0x8000_0000 {
-        0.0f32 / 0.0f32
-    } else {
-        f32::from_bits(w)
-    }
+    from_bits_f32(w)
 }
 
 // Two's complement.
 pub fn signed_of(w: u32) -> i32
     ensures { result ≡ signed_of w }
 {
-    if w < 0x8000_0000 {
-        w as i32
-    } else {
-        -1 - ((0xffff_ffff - w) as i32)
-    }
+    w.cast_signed()
 }
 
 // A word above 255 counts as 255, which no key and no velocity may be.
 pub fn byte_of(w: u32) -> u8
     ensures { result ≡ byte_of w }
 {
-    if w < 256 { w as u8 } else { 255 }
+    w.min(255) as u8
 }
 
-// An enum's word is its place in the Rust's declaration; any other word means the first.
-fn loop_mode_of(w: u32) -> LoopMode
-    ensures { result ≡ loop_mode_of w }
-{
-    match w {
-        0 => LoopMode::NoLoop,
-        1 => LoopMode::OneShot,
-        2 => LoopMode::Continuous,
-        3 => LoopMode::Sustain,
-        _ => LoopMode::NoLoop,
-    }
-}
+// An enum's word is its place in the Rust's declaration, which is the order here; any other word means the first.
+const LOOP_MODES: [LoopMode; 4] = [
+    LoopMode::NoLoop,
+    LoopMode::OneShot,
+    LoopMode::Continuous,
+    LoopMode::Sustain,
+];
 
-fn loop_source_of(w: u32) -> LoopSource
-    ensures { result ≡ loop_source_of w }
-{
-    match w {
-        0 => LoopSource::None,
-        1 => LoopSource::Sfz,
-        2 => LoopSource::File,
-        3 => LoopSource::Whole,
-        _ => LoopSource::None,
-    }
-}
+const LOOP_SOURCES: [LoopSource; 4] = [
+    LoopSource::None,
+    LoopSource::Sfz,
+    LoopSource::File,
+    LoopSource::Whole,
+];
 
-fn trigger_of(w: u32) -> Trigger
-    ensures { result ≡ trigger_of w }
-{
-    match w {
-        0 => Trigger::Attack,
-        1 => Trigger::Release,
-        2 => Trigger::ReleaseKey,
-        3 => Trigger::First,
-        4 => Trigger::Legato,
-        _ => Trigger::Attack,
-    }
-}
+const TRIGGERS: [Trigger; 5] = [
+    Trigger::Attack,
+    Trigger::Release,
+    Trigger::ReleaseKey,
+    Trigger::First,
+    Trigger::Legato,
+];
 
-fn off_mode_of(w: u32) -> OffMode
-    ensures { result ≡ off_mode_of w }
-{
-    match w {
-        0 => OffMode::Fast,
-        1 => OffMode::Normal,
-        2 => OffMode::Time,
-        _ => OffMode::Fast,
-    }
-}
+const OFF_MODES: [OffMode; 3] = [OffMode::Fast, OffMode::Normal, OffMode::Time];
 
-fn filter_kind_of(w: u32) -> FilterKind
-    ensures { result ≡ filter_kind_of w }
-{
-    match w {
-        0 => FilterKind::Lpf1p,
-        1 => FilterKind::Hpf1p,
-        2 => FilterKind::Lpf2p,
-        3 => FilterKind::Hpf2p,
-        4 => FilterKind::Bpf2p,
-        5 => FilterKind::Brf2p,
-        6 => FilterKind::Lpf4p,
-        7 => FilterKind::Hpf4p,
-        8 => FilterKind::Lpf6p,
-        9 => FilterKind::Hpf6p,
-        10 => FilterKind::Peq,
-        11 => FilterKind::Lsh,
-        12 => FilterKind::Hsh,
-        _ => FilterKind::Lpf1p,
-    }
-}
+const FILTER_KINDS: [FilterKind; 13] = [
+    FilterKind::Lpf1p,
+    FilterKind::Hpf1p,
+    FilterKind::Lpf2p,
+    FilterKind::Hpf2p,
+    FilterKind::Bpf2p,
+    FilterKind::Brf2p,
+    FilterKind::Lpf4p,
+    FilterKind::Hpf4p,
+    FilterKind::Lpf6p,
+    FilterKind::Hpf6p,
+    FilterKind::Peq,
+    FilterKind::Lsh,
+    FilterKind::Hsh,
+];
 
-fn eq_kind_of(w: u32) -> EqKind
-    ensures { result ≡ eq_kind_of w }
+const EQ_KINDS: [EqKind; 3] = [EqKind::Peak, EqKind::LowShelf, EqKind::HighShelf];
+
+fn named<T: Copy>(names: &[T], w: u32, first: T) -> T
+    ensures { result ≡ get_or names.now w first }
 {
-    match w {
-        0 => EqKind::Peak,
-        1 => EqKind::LowShelf,
-        2 => EqKind::HighShelf,
-        _ => EqKind::Peak,
-    }
+    names.get(w as usize).copied().unwrap_or(first)
 }
 
 // A value with a presence word before it: 0 is none, anything else is the value.
-fn maybe_of(present: u32, w: u32) -> MaybeU32
-    ensures { result ≡ maybe_of present w }
+fn maybe_of<T: Drop>(present: u32, value: T) -> Option<T>
+    ensures { result ≡ maybe_of present value }
 {
-    if present == 0 {
-        MaybeU32::Absent
-    } else {
-        MaybeU32::Present(w)
-    }
+    (present != 0).then_some(value)
 }
 
-fn off_by_of(present: u32, w: u32) -> OffBy
-    ensures { result ≡ off_by_of present w }
+// The sample that a region's first word names.
+pub(crate) fn sample_named(w: u32) -> Option<u32>
+    ensures { result ≡ sample_named w }
 {
-    if present == 0 {
-        return OffBy::Nobody;
-    }
-    let group = signed_of(w);
-    OffBy::Group(group)
+    (w != SILENCE).then_some(w)
 }
 
-fn loop_points_of(present: u32, start: u32, end: u32) -> LoopPoints
-    ensures { result ≡ loop_points_of present start end }
-{
-    if present == 0 {
-        LoopPoints::Unlooped
-    } else {
-        LoopPoints::Looped { start, end }
-    }
-}
-
-fn seq_of(present: u32, length: u32, position: u32) -> Seq
-    ensures { result ≡ seq_of present length position }
-{
-    if present == 0 {
-        Seq::EveryTime
-    } else {
-        Seq::InTurn { length, position }
-    }
-}
-
-fn rand_of(present: u32, lo: u32, hi: u32) -> Rand
-    ensures { result ≡ rand_of present lo hi }
-{
-    if present == 0 {
-        return Rand::AnyDraw;
-    }
-    let l = float_of(lo);
-    let h = float_of(hi);
-    Rand::Within { lo: l, hi: h }
-}
-
-// The single at word `k`.
-fn float_at(r: &[u32], k: usize) -> f32
-    requires { k < length r.now }
+// The single at word `k`. A word's place stands once, beside its field, as in docs/PROGRAM.md: a name for it would say the field again.
+fn float_at(r: &[u32; REGION_WORDS], k: usize) -> f32
+    requires { k < 392 }
     ensures { result ≡ single r.now k }
 {
     float_of(r[k])
 }
 
 // The byte at word `k`.
-fn byte_at(r: &[u32], k: usize) -> u8
-    requires { k < length r.now }
+fn byte_at(r: &[u32; REGION_WORDS], k: usize) -> u8
+    requires { k < 392 }
     ensures { result ≡ byte_of (word r.now k) }
 {
     byte_of(r[k])
 }
 
-fn crossfade_of(r: &[u32]) -> XfVel
-    requires { length r.now ≡ 392 }
+#[tactic(auto, unfolding(crate::specs::Region::crossfade_of))]
+fn crossfade_of(r: &[u32; REGION_WORDS]) -> Option<VelCrossfade>
     ensures { result ≡ crossfade_of r.now }
 {
-    if r[33] == 0 {
-        return XfVel::NoCrossfade;
-    }
-    XfVel::Crossfade(VelCrossfade {
+    let x = VelCrossfade {
         in_lo: float_at(r, 34),
         in_hi: float_at(r, 35),
         out_lo: float_at(r, 36),
         out_hi: float_at(r, 37),
         gain_curve: r[38] != 0,
-    })
+    };
+    maybe_of(r[33], x)
 }
 
-fn envelope_of(r: &[u32]) -> Envelope
-    requires { length r.now ≡ 392 }
+#[tactic(auto, unfolding(crate::specs::Region::envelope_of))]
+fn envelope_of(r: &[u32; REGION_WORDS]) -> Envelope
     ensures { result ≡ envelope_of r.now }
 {
     Envelope {
@@ -432,12 +338,13 @@ fn envelope_of(r: &[u32]) -> Envelope
 }
 
 // The filter whose seven words begin at `at`.
-fn filter_of(r: &[u32], at: usize) -> Filter
-    requires { at + 7 ≤ length r.now }
+#[tactic(auto, unfolding(crate::specs::Region::filter_of))]
+fn filter_of(r: &[u32; REGION_WORDS], at: usize) -> Filter
+    requires { at + 7 ≤ 392 }
     ensures { result ≡ filter_of r.now at }
 {
     Filter {
-        kind: filter_kind_of(r[at]),
+        kind: named(&FILTER_KINDS, r[at], FilterKind::Lpf1p),
         cutoff: float_at(r, at + 2),
         resonance: float_at(r, at + 3),
         keytrack: float_at(r, at + 4),
@@ -447,8 +354,8 @@ fn filter_of(r: &[u32], at: usize) -> Filter
     }
 }
 
-fn filters_of(r: &[u32]) -> [Filter; 6]
-    requires { length r.now ≡ 392 }
+#[tactic(auto, unfolding(crate::specs::Region::filters_of))]
+fn filters_of(r: &[u32; REGION_WORDS]) -> [Filter; 6]
     ensures { result ≡ filters_of r.now }
 {
     [
@@ -462,12 +369,13 @@ fn filters_of(r: &[u32]) -> [Filter; 6]
 }
 
 // The equaliser band whose six words begin at `at`.
-fn band_of(r: &[u32], at: usize) -> EqBand
-    requires { at + 6 ≤ length r.now }
+#[tactic(auto, unfolding(crate::specs::Region::band_of))]
+fn band_of(r: &[u32; REGION_WORDS], at: usize) -> EqBand
+    requires { at + 6 ≤ 392 }
     ensures { result ≡ band_of r.now at }
 {
     EqBand {
-        kind: eq_kind_of(r[at]),
+        kind: named(&EQ_KINDS, r[at], EqKind::Peak),
         freq: float_at(r, at + 1),
         bw: float_at(r, at + 2),
         gain: float_at(r, at + 3),
@@ -476,8 +384,8 @@ fn band_of(r: &[u32], at: usize) -> EqBand
     }
 }
 
-fn bands_of(r: &[u32]) -> [EqBand; 6]
-    requires { length r.now ≡ 392 }
+#[tactic(auto, unfolding(crate::specs::Region::bands_of))]
+fn bands_of(r: &[u32; REGION_WORDS]) -> [EqBand; 6]
     ensures { result ≡ bands_of r.now }
 {
     [
@@ -490,8 +398,8 @@ fn bands_of(r: &[u32]) -> [EqBand; 6]
     ]
 }
 
-pub(crate) fn window_of(r: &[u32]) -> Window
-    requires { length r.now ≡ 392 }
+#[tactic(auto, unfolding(crate::specs::Region::window_of))]
+pub(crate) fn window_of(r: &[u32; REGION_WORDS]) -> Window
     ensures { result ≡ window_of r.now }
 {
     Window {
@@ -502,8 +410,8 @@ pub(crate) fn window_of(r: &[u32]) -> Window
     }
 }
 
-fn pitch_of(r: &[u32]) -> Pitch
-    requires { length r.now ≡ 392 }
+#[tactic(auto, unfolding(crate::specs::Region::pitch_of))]
+fn pitch_of(r: &[u32; REGION_WORDS]) -> Pitch
     ensures { result ≡ pitch_of r.now }
 {
     Pitch {
@@ -516,22 +424,28 @@ fn pitch_of(r: &[u32]) -> Pitch
     }
 }
 
-fn playback_of(r: &[u32]) -> Playback
-    requires { length r.now ≡ 392 }
+#[tactic(auto, unfolding(crate::specs::Region::playback_of))]
+fn playback_of(r: &[u32; REGION_WORDS]) -> Playback
     ensures { result ≡ playback_of r.now }
 {
     Playback {
         offset_frames: r[7],
         end_frames: maybe_of(r[8], r[9]),
-        loop_mode: loop_mode_of(r[10]),
-        loop_source: loop_source_of(r[11]),
-        loop_points: loop_points_of(r[12], r[13], r[14]),
+        loop_mode: named(&LOOP_MODES, r[10], LoopMode::NoLoop),
+        loop_source: named(&LOOP_SOURCES, r[11], LoopSource::None),
+        loop_points: maybe_of(
+            r[12],
+            LoopPoints {
+                start: r[13],
+                end: r[14],
+            },
+        ),
         delay_s: float_at(r, 49),
     }
 }
 
-fn level_of(r: &[u32]) -> Level
-    requires { length r.now ≡ 392 }
+#[tactic(auto, unfolding(crate::specs::Region::level_of))]
+fn level_of(r: &[u32; REGION_WORDS]) -> Level
     ensures { result ≡ level_of r.now }
 {
     Level {
@@ -546,25 +460,37 @@ fn level_of(r: &[u32]) -> Level
     }
 }
 
-pub(crate) fn choice_of(r: &[u32]) -> Choice
-    requires { length r.now ≡ 392 }
+#[tactic(auto, unfolding(crate::specs::Region::choice_of))]
+pub(crate) fn choice_of(r: &[u32; REGION_WORDS]) -> Choice
     ensures { result ≡ choice_of r.now }
 {
     Choice {
-        trigger: trigger_of(r[22]),
-        seq: seq_of(r[15], r[16], r[17]),
-        rand: rand_of(r[30], r[31], r[32]),
+        trigger: named(&TRIGGERS, r[22], Trigger::Attack),
+        seq: maybe_of(
+            r[15],
+            Seq {
+                length: r[16],
+                position: r[17],
+            },
+        ),
+        rand: maybe_of(
+            r[30],
+            Rand {
+                lo: float_at(r, 31),
+                hi: float_at(r, 32),
+            },
+        ),
     }
 }
 
-fn choke_of(r: &[u32]) -> Choke
-    requires { length r.now ≡ 392 }
+#[tactic(auto, unfolding(crate::specs::Region::choke_of))]
+fn choke_of(r: &[u32; REGION_WORDS]) -> Choke
     ensures { result ≡ choke_of r.now }
 {
     Choke {
         group: signed_of(r[18]),
-        off_by: off_by_of(r[19], r[20]),
-        off_mode: off_mode_of(r[21]),
+        off_by: maybe_of(r[19], signed_of(r[20])),
+        off_mode: named(&OFF_MODES, r[21], OffMode::Fast),
         off_time: float_at(r, 48),
         note_polyphony: maybe_of(r[23], r[24]),
         polyphony: maybe_of(r[25], r[26]),
@@ -572,12 +498,12 @@ fn choke_of(r: &[u32]) -> Choke
 }
 
 // The region that these words mean.
-fn region_of(r: &[u32]) -> Region
-    requires { length r.now ≡ 392 }
+#[tactic(auto, unfolding(crate::specs::Region::region_of))]
+fn region_of(r: &[u32; REGION_WORDS]) -> Region
     ensures { result ≡ region_of r.now }
 {
     Region {
-        sample: r[0],
+        sample: sample_named(r[0]),
         window: window_of(r),
         pitch: pitch_of(r),
         play: playback_of(r),
@@ -592,14 +518,18 @@ fn region_of(r: &[u32]) -> Region
     }
 }
 
-// Region `i` of the program's words. Where there is none, every word of it counts as 0.
+static NO_WORDS: [u32; REGION_WORDS] = [0; REGION_WORDS];
+
+// Region i's words; where there is none, every word of it counts as 0.
+pub fn words_of(words: &[u32], i: u32) -> &[u32; REGION_WORDS]
+    ensures { result.now ≡ words_of words.now i }
+{
+    words.as_chunks().0.get(i as usize).unwrap_or(&NO_WORDS)
+}
+
+// Region `i` of the program's words.
 pub fn region_at(words: &[u32], i: u32) -> Region
     ensures { result ≡ region_at words.now i }
 {
-    let at = (i as usize) * 392;
-    if at + 392 <= words.len() {
-        return region_of(&words[at..at + 392]);
-    }
-    let zeros = [0u32; 392];
-    region_of(&zeros)
+    region_of(words_of(words, i))
 }

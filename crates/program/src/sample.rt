@@ -1,12 +1,19 @@
 // A sample: four words, and frames of its own among those that are lent.
 ghost use Rattle.std.specs.Prelude.{◌≡◌, ◌+◌, ◌*◌, ◌≤◌, ◌<◌, length, take, drop};
-ghost use Rattle.program.specs.Valid.{every, is_finite, all_finite};
+ghost use Rattle.std.specs.Float.{float_is_finite};
+ghost use Rattle.program.specs.Valid.{every, all_finite};
 ghost use Rattle.program.specs.Sample.{sample_at, rate_tests, shape_tests, sample_tests};
 
 use super::region::float_of;
 
 // Words of one sample.
 pub const SAMPLE_WORDS: usize = 4;
+
+const MAX_CHANNELS: u32 = 2;
+// Of one channel.
+const MAX_FRAMES: u32 = 2_147_483_647;
+// Hz.
+const MAX_RATE: f32 = 768_000.0;
 
 // `rate` in Hz; `frames` per channel; `start`, the first frame's place among those lent. Channel 1 follows channel 0.
 #[derive(Clone, Copy)]
@@ -21,99 +28,63 @@ pub struct Sample {
 pub fn sample_at(samples: &[u32], j: u32) -> Sample
     ensures { result ≡ sample_at samples.now j }
 {
-    let at = (j as usize) * 4;
-    if at + 4 <= samples.len() {
-        return Sample {
-            rate: float_of(samples[at]),
-            channels: samples[at + 1],
-            frames: samples[at + 2],
-            start: samples[at + 3],
-        };
-    }
+    let (samples, _) = samples.as_chunks::<SAMPLE_WORDS>();
+    let [rate, channels, frames, start] = samples
+        .get(j as usize)
+        .copied()
+        .unwrap_or([0; SAMPLE_WORDS]);
     Sample {
-        rate: 0.0,
-        channels: 0,
-        frames: 0,
-        start: 0,
+        rate: float_of(rate),
+        channels,
+        frames,
+        start,
     }
 }
 
 // Rust's `is_finite`.
 pub fn is_finite(x: f32) -> bool
-    ensures { result ≡ is_finite x }
+    ensures { result ≡ float_is_finite x }
 {
-    if x != x {
-        return false;
-    }
-    f32::to_bits(x) % 0x8000_0000 < 0x7f80_0000
+    x.is_finite()
 }
 
-// Whether the n frames from `start` on are finite.
-pub(crate) fn frames_finite(frames: &[f32], start: usize, n: usize) -> bool
-    requires { start + n ≤ length frames.now }
-    ensures { result ≡ all_finite (take n (drop start frames.now)) }
+pub(crate) fn all_finite(frames: &[f32]) -> bool
+    ensures { result ≡ all_finite frames.now }
 {
-    let mut k: usize = 0;
-    while k < n {
-        if !is_finite(frames[start + k]) {
-            return false;
-        }
-        k += 1;
-    }
-    true
+    frames.iter().all(|x| x.is_finite())
 }
 
 // A rate above 0 and at most 768,000.
 fn rate_ok(rate: f32) -> bool
     ensures { result ≡ every (rate_tests rate) }
 {
-    if !is_finite(rate) {
-        return false;
-    }
-    if rate <= 0.0 {
-        return false;
-    }
-    !(768000.0 < rate)
+    rate.is_finite() && !(rate <= 0.0) && !(MAX_RATE < rate)
 }
 
 // The frames of all channels together.
-fn size(channels: u32, frames: u32) -> usize
-    requires { (channels ≤ 2) × (frames ≤ 2147483647) }
-    ensures { result ≡ channels * frames }
+fn size(s: Sample) -> usize
+    requires { (s.channels ≤ 2) × (s.frames ≤ 2147483647) }
+    ensures { result ≡ s.channels * s.frames }
 {
-    (channels as usize) * (frames as usize)
+    (s.channels as usize) * (s.frames as usize)
 }
 
 // All that test 3 asks of a sample but that its frames are finite, where `total` frames are lent.
 pub fn shape_ok(s: Sample, total: usize) -> bool
     ensures { result ≡ every (shape_tests total s) }
 {
-    if s.channels == 0 {
-        return false;
-    }
-    if 2 < s.channels {
-        return false;
-    }
-    if !rate_ok(s.rate) {
-        return false;
-    }
-    if s.frames == 0 {
-        return false;
-    }
-    if 2147483647 < s.frames {
-        return false;
-    }
-    (s.start as usize) + size(s.channels, s.frames) <= total
+    0 < s.channels
+        && s.channels <= MAX_CHANNELS
+        && rate_ok(s.rate)
+        && 0 < s.frames
+        && s.frames <= MAX_FRAMES
+        && (s.start as usize) + size(s) <= total
 }
 
 // Test 3 of one sample.
 pub fn sample_ok(s: Sample, frames: &[f32]) -> bool
     ensures { result ≡ every (sample_tests frames.now s) }
 {
-    if !shape_ok(s, frames.len()) {
-        return false;
-    }
     let start = s.start as usize;
-    let n = size(s.channels, s.frames);
-    frames_finite(frames, start, n)
+    shape_ok(s, frames.len()) && all_finite(&frames[start..start + size(s)])
 }

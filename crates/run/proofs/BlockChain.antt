@@ -1,17 +1,16 @@
 -- A block is a chain of moves with the starts that specs/Starts gives it. Assumes nothing.
+use Rattle.std.specs.List.{list_any, range_with_len}
+use Rattle.std.proofs.Common.{None, Option, Some}
+use Rattle.note.specs.declared.NoteState.{NoteState}
 use Prim.Native.Nat.{ℕ, zero, suc, ◌+◌}
 use mathlib.Core.Path.{refl}
 use mathlib.Core.Bool.{Bool}
 use mathlib.Core.List.{List, [], ◌∷◌, foldl, append-nil}
 use lib.Dec.{ltb}
 use Rattle.exact.specs.Single.{f0}
-use Rattle.program.specs.Bind.{indexes}
-use Rattle.session.specs.Lists.{any}
 use Rattle.session.specs.Offs.{collected_offs}
 use Rattle.session.specs.declared.Session.{Session}
 use Rattle.note.specs.Note.{note_of}
-use Rattle.note.specs.declared.MaybeNote.{MaybeNote}
-use Rattle.note.specs.declared.MaybeNote.TheVariants.{Absent, Present}
 use Rattle.note.specs.declared.Strike.{Strike}
 use Rattle.players.specs.Mix.{Sounds}
 use Rattle.events.specs.Voice.{Kit, with_players}
@@ -41,7 +40,7 @@ module _ (id : ℕ) (k : Kit) where
   pub turns-chain : (t : BlockTime) (i m : ℕ) (p : Playing) → Turns id (both_of p) (starts_of_turns k t i m p) (both_of (off_turns k t i m p))
   unfolding starts_of_turns off_turns
   turns-chain t i zero p = stay
-  turns-chain t i (suc m) p = either both_of (any (falls_on t i) (off_list p.offs)) (then (turn-chain t i p) (turns-chain t i m (off_turn k t i p))) stay
+  turns-chain t i (suc m) p = either both_of (list_any (falls_on t i) (off_list p.offs)) (then (turn-chain t i p) (turns-chain t i m (off_turn k t i p))) stay
 
   pub gate-chain : (x : Strike) (g : Bool) (p : Playing) → Turns id (both_of p) (starts_of_gate k x g p) (both_of (gate_turn k x g p))
   unfolding starts_of_gate gate_turn edge_turned
@@ -97,9 +96,9 @@ module _ (id : ℕ) (l : Lent) where
   retuned-chain : (b : Both) → Turns id b [] (record { session = b.session; voice = retuned_voice l.connected l.freq l.bend b.voice })
   unfolding retuned_voice
   retuned-chain b = by-case b.voice.note where
-    by-case : (n : MaybeNote) → Turns id b [] (record { session = b.session; voice = retuned_for l.connected l.freq l.bend n b.voice })
-    by-case Absent = stay
-    by-case (Present n) =
+    by-case : (n : Option NoteState) → Turns id b [] (record { session = b.session; voice = retuned_for l.connected l.freq l.bend n b.voice })
+    by-case None = stay
+    by-case (Some n) =
         kept (λ h. keeps-retuned id b h (note_of (input_at l.connected.freq l.freq 0 f0) n.note_f) (bend_of (input_at l.connected.bend l.bend 0 f0)))
 
   pub start-chain : (s : Session) (v : SampleVoice) → Turns id (record { session = s; voice = v }) [] (scene_both (block_start l s v))
@@ -112,9 +111,9 @@ module _ (id : ℕ) (l : Lent) where
   pub sounded-chain : (s : Session) (v : SampleVoice) → Turns id (record { session = s; voice = v }) (starts_of_block l s v) (played_block l s v).both
   unfolding starts_of_block played_block sounded_from frames_turned
   sounded-chain s v =
-      rw (← (append-nil (starts_of_frames (cues_of l) (indexes 0 l.time.frames) (block_start l s v))))
+      rw (← (append-nil (starts_of_frames (cues_of l) (range_with_len 0 l.time.frames) (block_start l s v))))
       (then (start-chain s v)
-      (then (frames-chain id (cues_of l) (indexes 0 l.time.frames) (block_start l s v)) (rendered-chain id (sounds_of (cues_of l)) l.time.frames (foldl (frame_turn (cues_of l)) (block_start l s v) (indexes 0 l.time.frames)))))
+      (then (frames-chain id (cues_of l) (range_with_len 0 l.time.frames) (block_start l s v)) (rendered-chain id (sounds_of (cues_of l)) l.time.frames (foldl (frame_turn (cues_of l)) (block_start l s v) (range_with_len 0 l.time.frames)))))
 
 -- the whole block
 pub block-chain : (l : Lent) (s : Session) (v : SampleVoice) → Shape v.voice (record { session = s; voice = v })

@@ -1,18 +1,15 @@
 -- Each definition of events and blocks is a chain of moves with the starts that specs/Starts gives it. Assumes nothing.
+use Rattle.std.proofs.Common.{None, Option, Some, cond}
+use Rattle.session.specs.declared.Off.{Off}
 use Prim.Native.Nat.{ℕ, zero, suc}
 use mathlib.Core.Path.{refl}
 use mathlib.Core.Bool.{Bool, true, false}
 use mathlib.Core.List.{List, [], ◌∷◌, ◌++◌}
 use Rattle.exact.specs.Random.{drawn}
-use Rattle.session.specs.Lists.{pick}
 use Rattle.session.specs.Offs.{took_first}
 use Rattle.session.specs.State.{serial_up, held_down, with_seq}
-use Rattle.session.specs.declared.FirstOff.{FirstOff}
-use Rattle.session.specs.declared.FirstOff.TheVariants.{Nothing, Taken}
 use Rattle.note.specs.Choice.{choosing_on, chosen_off}
 use Rattle.note.specs.Note.{note_state}
-use Rattle.note.specs.declared.MaybeNote.{MaybeNote}
-use Rattle.note.specs.declared.MaybeNote.TheVariants.{Absent, Present}
 use Rattle.note.specs.declared.NoteState.{NoteState}
 use Rattle.note.specs.declared.Strike.{Strike}
 use Rattle.players.specs.Gate.{released_all, offed_slot}
@@ -46,13 +43,13 @@ module _ {id : ℕ} where
 
   -- two ways, each with its starts
   pub either : {A : Type 0} (f : A → Both) {b : Both} {xs ys : List Started} {x y : A} (t : Bool) → Turns id b xs (f x) → Turns id b ys (f y)
-      → Turns id b (pick t xs ys) (f (pick t x y))
+      → Turns id b (cond t xs ys) (f (cond t x y))
   either f true g k = g
   either f false g k = k
 
   -- two ways with the same starts
   pub either-one : {A : Type 0} (f : A → Both) {b : Both} {xs : List Started} {x y : A} (t : Bool) → Turns id b xs (f x) → Turns id b xs (f y)
-      → Turns id b xs (f (pick t x y))
+      → Turns id b xs (f (cond t x y))
   either-one f true g k = g
   either-one f false g k = k
 
@@ -81,9 +78,9 @@ module _ (id : ℕ) (k : Kit) where
   pub dispatch-chain : (m at : ℕ) (b : Both) → Turns id b (starts_of_dispatch k m at b) (dispatched_release k m at b)
   unfolding starts_of_dispatch dispatched_release
   dispatch-chain m at b = by-case b.voice.note where
-    by-case : (n : MaybeNote) → Turns id b (starts_for k m at n b) (fired_for k m at n b)
-    by-case Absent = stay
-    by-case (Present n) = release-chain m n at b
+    by-case : (n : Option NoteState) → Turns id b (starts_for k m at n b) (fired_for k m at n b)
+    by-case None = stay
+    by-case (Some n) = release-chain m n at b
 
   -- ---- off marks
 
@@ -107,9 +104,9 @@ module _ (id : ℕ) (k : Kit) where
     c : Both
     c = record { session = (took_first b.voice.voice b.session).session; voice = b.voice }
 
-    by-case : (o : FirstOff) → Turns id c (starts_of_first k m o c) (acts_on k m o c)
-    by-case Nothing = stay
-    by-case (Taken o) = off-chain m o.slot o.at c
+    by-case : (o : Option Off) → Turns id c (starts_of_first k m o c) (acts_on k m o c)
+    by-case None = stay
+    by-case (Some o) = off-chain m o.slot o.at c
 
   pub own-chain : (m turns : ℕ) (b : Both) → Turns id b (starts_of_own k m turns b) (own_offs k m turns b)
   unfolding starts_of_own own_offs

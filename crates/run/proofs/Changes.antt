@@ -13,8 +13,7 @@ use Rattle.session.specs.State.{view, ended_voice}
 use Rattle.session.specs.declared.PlayerRecord.{PlayerRecord}
 use Rattle.session.specs.declared.Session.{Session}
 use Rattle.session.proofs.Laws.{slots-marks}
-use Rattle.session.proofs.Relist.{view-few, view-relist, relist-size}
-use Rattle.session.proofs.Voices.{keep-fewer}
+use Rattle.session.proofs.Relist.{view-few, view-relist, relist-size, keep-fewer}
 use Rattle.events.specs.declared.SampleVoice.{SampleVoice}
 use Rattle.run.specs.Run.{Book, put, ids_in, is_live, gates_held, one, sum_over, records_of, Follows}
 use Rattle.run.specs.Starts.{Started}

@@ -1,11 +1,12 @@
 -- Reset and close leave the book steady. Assumes nothing.
+use Rattle.std.specs.Prelude.{filter}
 use Prim.Native.Nat.{ℕ, ◌+◌, ◌≤◌}
 use mathlib.Core.Path.{◌≡◌, refl, sym, ap, ◌∙◌, subst}
 use mathlib.Core.Bool.{true, false}
 use mathlib.Core.Logic.{⊎_elim}
 use mathlib.Core.List.{[], map}
 use native.Mathlib.Omega.{arith}
-use Rattle.session.specs.Lists.{elem, keep}
+use Rattle.session.specs.Lists.{elem}
 use Rattle.session.specs.Rules.{slots_of, without_voice}
 use Rattle.session.specs.State.{view, ended_voice, closed_voice, live_ids}
 use Rattle.session.specs.declared.PlayerRecord.{PlayerRecord}
@@ -101,13 +102,13 @@ module _ (b : Book) (h : Steady b) (id : ℕ) where
     same-voices : (ended_on b id).voices ≡ b.world.session.voices
     same-voices = ended-voices (b.world.voices id).voice (b.world.voices id).gate_held b.world.session
 
-    closed-ids : ids_in (close_noted b id Done).world ≡ keep (others id) (ids_in b.world)
+    closed-ids : ids_in (close_noted b id Done).world ≡ filter (others id) (ids_in b.world)
     unfolding closed_voice
-    closed-ids = live-freed (b.world.voices id).voice b.world.session.voices ∙ ap (λ k. keep (others k) (ids_in b.world)) (h.named id)
+    closed-ids = live-freed (b.world.voices id).voice b.world.session.voices ∙ ap (λ k. filter (others k) (ids_in b.world)) (h.named id)
 
-    closed-each : (i : ℕ) → elem i (keep (others id) (ids_in b.world)) ≡ true
+    closed-each : (i : ℕ) → elem i (filter (others id) (ids_in b.world)) ≡ true
         → Voiced (b.starts i) (b.drops i) (put id false b.gate i) (slots_of i (view (ended_on b id))) (b.world.voices i)
-    closed-each i l = ⊎_elim (λ (e : i ≡ id). clash (sym l ∙ ap (λ k. elem k (keep (others id) (ids_in b.world))) e ∙ elem-keep-here id (ids_in b.world)))
+    closed-each i l = ⊎_elim (λ (e : i ≡ id). clash (sym l ∙ ap (λ k. elem k (filter (others id) (ids_in b.world))) e ∙ elem-keep-here id (ids_in b.world)))
         (λ n. rw (put-away id false b.gate i n) (subst (λ ks. Voiced (b.starts i) (b.drops i) (b.gate i) ks (b.world.voices i))
         (sym (ap (map (λ (r : PlayerRecord). r.slot)) (others-ended i n))) (h.each i (sym (elem-keep-away id i (ids_in b.world) n) ∙ l)))) (same? i id)
 

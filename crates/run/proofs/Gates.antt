@@ -1,4 +1,7 @@
 -- A block's gate: at its end the voice holds the gate as the last frame has it, and the session counts it so. Assumes nothing.
+use Rattle.std.specs.List.{list_any, range_with_len}
+use Rattle.std.proofs.Common.{None, Option, Some, cond}
+use Rattle.session.specs.declared.Off.{Off}
 use Prim.Native.Nat.{ℕ, zero, suc, ◌+◌, ◌-◌, ◌<◌, ◌^◌, ◌%◌}
 use mathlib.Core.Path.{◌≡◌, refl, sym, ap, subst, ◌∙◌}
 use mathlib.Core.Bool.{Bool, true, false, not, ◌||◌}
@@ -6,18 +9,12 @@ use mathlib.Core.List.{List, [], ◌∷◌, foldl}
 use native.Mathlib.Nat.{mod-eq_of_lt}
 use native.Mathlib.Omega.{arith}
 use lib.Dec.{ltb, leb, eqb}
-use Rattle.program.specs.Bind.{indexes}
-use Rattle.session.specs.Lists.{pick, any}
 use Rattle.session.specs.Offs.{took_first, collected_offs}
 use Rattle.session.specs.State.{view, relist, slot_list, serial_up, held_down, with_seq}
 use Rattle.session.specs.Rules.{mark_ended}
-use Rattle.session.specs.declared.FirstOff.{FirstOff}
-use Rattle.session.specs.declared.FirstOff.TheVariants.{Nothing, Taken}
 use Rattle.session.specs.declared.Session.{Session}
 use Rattle.note.specs.Choice.{choosing_on}
 use Rattle.note.specs.Note.{note_state}
-use Rattle.note.specs.declared.MaybeNote.{MaybeNote}
-use Rattle.note.specs.declared.MaybeNote.TheVariants.{Absent, Present}
 use Rattle.note.specs.declared.NoteState.{NoteState}
 use Rattle.note.specs.declared.Strike.{Strike}
 use Rattle.players.specs.Gate.{released_all, offed_slot}
@@ -52,13 +49,13 @@ still = record { held = refl; gate = refl; prev = refl }
 pub also : {b c d : Both} → Rests b c → Rests c d → Rests b d
 also r q = record { held = q.held ∙ r.held; gate = q.gate ∙ r.gate; prev = q.prev ∙ r.prev }
 
-one_of : {A : Type 0} (f : A → Both) {b : Both} {x y : A} (t : Bool) → Rests b (f x) → Rests b (f y) → Rests b (f (pick t x y))
+one_of : {A : Type 0} (f : A → Both) {b : Both} {x y : A} (t : Bool) → Rests b (f x) → Rests b (f y) → Rests b (f (cond t x y))
 one_of f true r q = r
 one_of f false r q = q
 
 pub reaped-rests : (b : Both) → Rests b (reaped_both b)
 unfolding reaped_both
-reaped-rests b = one_of itself (any is_over (sounding b.voice.players)) (record { held = refl; gate = refl; prev = refl }) still
+reaped-rests b = one_of itself (list_any is_over (sounding b.voice.players)) (record { held = refl; gate = refl; prev = refl }) still
 
 module _ (k : Kit) where
   pub region-rests : (n : NoteState) (c : Cause) (b : Both) (i : ℕ) → Rests b (started_region k n c b i)
@@ -80,9 +77,9 @@ module _ (k : Kit) where
   pub dispatch-rests : (m at : ℕ) (b : Both) → Rests b (dispatched_release k m at b)
   unfolding dispatched_release
   dispatch-rests m at b = by-case b.voice.note where
-    by-case : (n : MaybeNote) → Rests b (fired_for k m at n b)
-    by-case Absent = still
-    by-case (Present n) = release-rests m n at b
+    by-case : (n : Option NoteState) → Rests b (fired_for k m at n b)
+    by-case None = still
+    by-case (Some n) = release-rests m n at b
 
   choke-rests : (m at : ℕ) (fires : Bool) (b : Both) → Rests b (choke_fires k m at fires b)
   unfolding choke_fires
@@ -104,9 +101,9 @@ module _ (k : Kit) where
     c : Both
     c = record { session = (took_first b.voice.voice b.session).session; voice = b.voice }
 
-    by-case : (o : FirstOff) → Rests c (acts_on k m o c)
-    by-case Nothing = still
-    by-case (Taken o) = off-rests m o.slot o.at c
+    by-case : (o : Option Off) → Rests c (acts_on k m o c)
+    by-case None = still
+    by-case (Some o) = off-rests m o.slot o.at c
 
   pub own-rests : (m turns : ℕ) (b : Both) → Rests b (own_offs k m turns b)
   unfolding own_offs
@@ -121,7 +118,7 @@ module _ (k : Kit) where
   pub turns-rest : (t : BlockTime) (i m : ℕ) (p : Playing) → Rests (both_of p) (both_of (off_turns k t i m p))
   unfolding off_turns
   turns-rest t i zero p = still
-  turns-rest t i (suc m) p = one_of both_of (any (falls_on t i) (off_list p.offs)) (also (turn-rests t i p) (turns-rest t i m (off_turn k t i p))) still
+  turns-rest t i (suc m) p = one_of both_of (list_any (falls_on t i) (off_list p.offs)) (also (turn-rests t i p) (turns-rest t i m (off_turn k t i p))) still
 
 let-go-rests : (b : Both) → Rests b (let_go_both b)
 unfolding let_go_both
@@ -145,7 +142,7 @@ rendered-rests x to sc = one_of scene_both (ltb a to) (also {c = d} (marked (eqb
   marked : (t : Bool)
       → Rests (scene_both sc)
       (record {
-        session = pick t sc.playing.session (relist (mark_ended sc.playing.voice.voice (slot_list (mixture_of x a to sc).mixed.ended) (view sc.playing.session)) sc.playing.session);
+        session = cond t sc.playing.session (relist (mark_ended sc.playing.voice.voice (slot_list (mixture_of x a to sc).mixed.ended) (view sc.playing.session)) sc.playing.session);
         voice = with_players (mixture_of x a to sc).mixed.players sc.playing.voice;
       })
   marked true = record { held = refl; gate = refl; prev = refl }
@@ -232,7 +229,7 @@ module _ (g₀ : Bool) (h₀ : ℕ) (room : h₀ + 1 < 2 ^ 32) (some : g₀ ≡ 
           let p = counted g₀ h₀ b.session.held some e in
           record { gate = refl; prev = refl; held = omega arith }
 
-      by-case : (t : Bool) → b.voice.gate_held ≡ t → At g₀ h₀ false (pick t (let_go_note k m x.at c) c)
+      by-case : (t : Bool) → b.voice.gate_held ≡ t → At g₀ h₀ false (cond t (let_go_note k m x.at c) c)
       by-case true e = rest_at (rest_at let-go-at (let-go-rests d)) (dispatch-rests k m x.at (let_go_both d))
       by-case false e = let f = a.gate in let z : ◌≡◌ {A = ℕ} 0 1 = cc in absurd (omega arith)
 
@@ -240,8 +237,8 @@ module _ (g₀ : Bool) (h₀ : ℕ) (room : h₀ + 1 < 2 ^ 32) (some : g₀ ≡ 
     gate-at : (g q : Bool) (p : Playing) → At g₀ h₀ q (both_of p) → At g₀ h₀ g (both_of (gate_turn k x g p))
     unfolding gate_turn
     gate-at g q p a =
-        subst (λ (t : Bool). At g₀ h₀ g (both_of (pick t (with_both (edge_turned k x g (both_of p)) p) p))) (sym (ap (λ (z : Bool). not (same_gate g z)) a.prev)) (go g q a) where
-          go : (g q : Bool) → At g₀ h₀ q (both_of p) → At g₀ h₀ g (both_of (pick (not (same_gate g q)) (with_both (edge_turned k x g (both_of p)) p) p))
+        subst (λ (t : Bool). At g₀ h₀ g (both_of (cond t (with_both (edge_turned k x g (both_of p)) p) p))) (sym (ap (λ (z : Bool). not (same_gate g z)) a.prev)) (go g q a) where
+          go : (g q : Bool) → At g₀ h₀ q (both_of p) → At g₀ h₀ g (both_of (cond (not (same_gate g q)) (with_both (edge_turned k x g (both_of p)) p) p))
           go true true a = a
           go true false a = rise-at (both_of p) a
           go false true a = fall-at (both_of p) a
@@ -259,13 +256,13 @@ module _ (g₀ : Bool) (h₀ : ℕ) (room : h₀ + 1 < 2 ^ 32) (some : g₀ ≡ 
       rendered = rendered_to (sounds_of c) i sc
 
       by-case : (t : Bool) → event_on c sc i ≡ t
-          → At g₀ h₀ (gate_on c i) (scene_both (pick t (record { playing = events_at (kit_of c) c.time i (strike_at c i) (gate_on c i) rendered.playing; left = rendered.left; right = rendered.right }) sc))
+          → At g₀ h₀ (gate_on c i) (scene_both (cond t (record { playing = events_at (kit_of c) c.time i (strike_at c i) (gate_on c i) rendered.playing; left = rendered.left; right = rendered.right }) sc))
       by-case true e = events-at (kit_of c) (strike_at c i) c.time i (gate_on c i) q rendered.playing (rest_at a (rendered-rests (sounds_of c) i sc))
       by-case false e =
           subst (λ (g : Bool). At g₀ h₀ g (scene_both sc))
-          (sym a.prev ∙ same-gate (gate_on c i) sc.playing.voice.gate_prev (or_right (any (falls_on c.time i) (off_list sc.playing.offs)) _ e)) a
+          (sym a.prev ∙ same-gate (gate_on c i) sc.playing.voice.gate_prev (or_right (list_any (falls_on c.time i) (off_list sc.playing.offs)) _ e)) a
 
-    frames-at : (n i : ℕ) (q : Bool) (sc : Scene) → At g₀ h₀ q (scene_both sc) → At g₀ h₀ (last_of c q i n) (scene_both (foldl (frame_turn c) sc (indexes i n)))
+    frames-at : (n i : ℕ) (q : Bool) (sc : Scene) → At g₀ h₀ q (scene_both sc) → At g₀ h₀ (last_of c q i n) (scene_both (foldl (frame_turn c) sc (range_with_len i n)))
     unfolding last_of
     frames-at zero i q sc a = a
     frames-at (suc n) i q sc a = frames-at n (i + 1) (gate_on c i) (frame_turn c sc i) (frame-at q sc i a)
@@ -275,9 +272,9 @@ module _ (g₀ : Bool) (h₀ : ℕ) (room : h₀ + 1 < 2 ^ 32) (some : g₀ ≡ 
 retuned-rests : (l : Lent) (b : Both) → Rests b (record { session = b.session; voice = retuned_voice l.connected l.freq l.bend b.voice })
 unfolding retuned_voice
 retuned-rests l b = by-case b.voice.note where
-  by-case : (n : MaybeNote) → Rests b (record { session = b.session; voice = retuned_for l.connected l.freq l.bend n b.voice })
-  by-case Absent = still
-  by-case (Present n) = record { held = refl; gate = refl; prev = refl }
+  by-case : (n : Option NoteState) → Rests b (record { session = b.session; voice = retuned_for l.connected l.freq l.bend n b.voice })
+  by-case None = still
+  by-case (Some n) = record { held = refl; gate = refl; prev = refl }
 
 start-rests : (l : Lent) (s : Session) (v : SampleVoice) → Rests (record { session = s; voice = v }) (scene_both (block_start l s v))
 unfolding block_start started_block collected_offs
@@ -299,7 +296,7 @@ block-gate l s v some-frames level room some = record { gate = a.gate; prev = a.
   begun = rest_at {b = record { session = s; voice = v }} (record { gate = refl; prev = sym level; held = refl }) (start-rests l s v)
 
   over : Scene
-  over = foldl (frame_turn (cues_of l)) (block_start l s v) (indexes 0 l.time.frames)
+  over = foldl (frame_turn (cues_of l)) (block_start l s v) (range_with_len 0 l.time.frames)
 
   through : At v.gate_held s.held (last_gate l) (scene_both over)
   through =

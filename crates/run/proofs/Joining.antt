@@ -1,4 +1,5 @@
 -- What a region's start keeps. Assumes nothing.
+use Rattle.std.specs.Prelude.{cond, filter}
 use Prim.Native.Nat.{ℕ, ◌+◌, ◌≤◌, ◌<◌, ◌^◌, ◌%◌, min}
 use mathlib.Core.Path.{◌≡◌, refl, sym, ap, subst, ◌∙◌}
 use mathlib.Core.Bool.{Bool, true, false, not}
@@ -9,7 +10,6 @@ use lib.ListN.{length, take, length-append, length-map, length-set}
 use lib.Seq.{length-take-le}
 use lib.Dec.{ltb, leb}
 use borrow.Author.Tests.{ltb-true, ltb-false, leb-false, eq-eqb}
-use Rattle.session.specs.Lists.{pick, keep}
 use Rattle.session.specs.Records.{of_voice}
 use Rattle.session.specs.Records as records
 use Rattle.session.specs.Rules.{start_marks, enter, slots_of}
@@ -19,7 +19,8 @@ use Rattle.session.specs.declared.Session.{Session}
 use Rattle.session.specs.declared.Start.{Start}
 use Rattle.session.proofs.Laws.{along-length, marks-along, slots-marks, enter-room, records-entered}
 use Rattle.session.proofs.Relist.{view-few, view-relist, relist-size}
-use Rattle.session.proofs.Walks.{keep_append, used-small}
+use Rattle.session.proofs.Walks.{used-small}
+use Rattle.std.proofs.lemmas.List.Elements.{filter-append}
 use Rattle.player.specs.Start.{started_player}
 use Rattle.player.specs.declared.Player.{Player}
 use Rattle.players.specs.Seats.{sounding, slot_numbers, seated}
@@ -98,7 +99,7 @@ module _ (id starts drops : ℕ) (b : Both) (h : Kept id starts drops b) where
   has_room few =
       let own : length (slots_of id (view b.session)) ≤ length (slot_numbers (sounding b.voice.players)) = sub-fewer h.under in
       let players : length (slot_numbers (sounding b.voice.players)) ≡ b.voice.players.count = many b.voice.players h.shape.few h.shape.seats in
-      let same : length (slots_of id (view b.session)) ≡ length (keep (of_voice id) (view b.session)) = length-map (keep (of_voice id) (view b.session)) (λ (r : PlayerRecord). r.slot) in
+      let same : length (slots_of id (view b.session)) ≡ length (filter (of_voice id) (view b.session)) = length-map (filter (of_voice id) (view b.session)) (λ (r : PlayerRecord). r.slot) in
       let all = parted (of_voice id) (view b.session) in
       let others = h.room in
       omega arith
@@ -124,9 +125,9 @@ pub kept_at : (id starts drops more less : ℕ) (b : Both) → starts ≡ more �
 kept_at id starts drops more less b e f h = subst (λ (n : ℕ). Kept id n less b) e (subst (λ (n : ℕ). Kept id starts n b) f h)
 
 -- the counter rests at its last number
-one-dropped : (d drops : ℕ) → d ≡ min drops 4294967295 → pick (ltb d 4294967295) (d + 1) d ≡ min (drops + 1) 4294967295
+one-dropped : (d drops : ℕ) → d ≡ min drops 4294967295 → cond (ltb d 4294967295) (d + 1) d ≡ min (drops + 1) 4294967295
 one-dropped d drops e = by-case (ltb d 4294967295) refl where
-  by-case : (t : Bool) → ltb d 4294967295 ≡ t → pick t (d + 1) d ≡ min (drops + 1) 4294967295
+  by-case : (t : Bool) → ltb d 4294967295 ≡ t → cond t (d + 1) d ≡ min (drops + 1) 4294967295
   by-case true q = let z = ltb-true d 4294967295 q in omega arith
   by-case false q = let z = ltb-false d 4294967295 q in omega arith
 
@@ -160,17 +161,17 @@ module _ (id starts drops : ℕ) (b : Both) (h : Kept id starts drops b) (st : S
         ap (slots_of id) row
         ∙ ap (map (λ (r : PlayerRecord). r.slot))
         (records-entered id (records.entered st b.voice.next_slot) (start_marks st (view b.session))
-        ∙ ap (λ (t : Bool). keep (of_voice id) (start_marks st (view b.session)) ++ pick t (records.entered st b.voice.next_slot ∷ []) []) (eq-eqb st.voice id its))
-        ∙ map-append (λ (r : PlayerRecord). r.slot) (keep (of_voice id) (start_marks st (view b.session))) (records.entered st b.voice.next_slot ∷ [])
+        ∙ ap (λ (t : Bool). filter (of_voice id) (start_marks st (view b.session)) ++ cond t (records.entered st b.voice.next_slot ∷ []) []) (eq-eqb st.voice id its))
+        ∙ map-append (λ (r : PlayerRecord). r.slot) (filter (of_voice id) (start_marks st (view b.session))) (records.entered st b.voice.next_slot ∷ [])
         ∙ ap (λ (l : List ℕ). l ++ (b.voice.next_slot ∷ [])) (slots-marks id st (view b.session))
 
     elsewhere-joined : elsewhere id (view (entered_by st b.voice.next_slot (marked_by st b.session))) ≡ elsewhere id (view b.session)
     elsewhere-joined =
         ap (elsewhere id) row
         ∙ ap length
-        (keep_append (λ (r : PlayerRecord). not (of_voice id r)) (start_marks st (view b.session)) (records.entered st b.voice.next_slot ∷ [])
-        ∙ ap (λ (t : Bool). keep (λ (r : PlayerRecord). not (of_voice id r)) (start_marks st (view b.session)) ++ pick (not t) (records.entered st b.voice.next_slot ∷ []) []) (eq-eqb st.voice id its)
-        ∙ append-nil (keep (λ (r : PlayerRecord). not (of_voice id r)) (start_marks st (view b.session))))
+        (filter-append (λ (r : PlayerRecord). not (of_voice id r)) (start_marks st (view b.session)) (records.entered st b.voice.next_slot ∷ [])
+        ∙ ap (λ (t : Bool). filter (λ (r : PlayerRecord). not (of_voice id r)) (start_marks st (view b.session)) ++ cond (not t) (records.entered st b.voice.next_slot ∷ []) []) (eq-eqb st.voice id its)
+        ∙ append-nil (filter (λ (r : PlayerRecord). not (of_voice id r)) (start_marks st (view b.session))))
         ∙ elsewhere-marks id st (view b.session)
 
     players-joined : slot_numbers (sounding (seated p b.voice.players)) ≡ slot_numbers (sounding b.voice.players) ++ (b.voice.next_slot ∷ [])
@@ -247,7 +248,7 @@ module _ (k : Kit) (n : NoteState) (c : Cause) (i : ℕ) (b : Both) where
     pub kept-start : Kept id (starts + players_in (started_on (start_in k n c b.voice i) b ∷ [])) (drops + drops_in (started_on (start_in k n c b.voice i) b ∷ [])) (started_region k n c b i)
     kept-start = by-case (leb 32 b.voice.players.count) refl where
       by-case : (t : Bool) → leb 32 b.voice.players.count ≡ t
-          → Kept id (starts + length (pick (not t) (started_on (start_in k n c b.voice i) b ∷ []) [])) (drops + length (pick t (started_on (start_in k n c b.voice i) b ∷ []) [])) (started_region k n c b i)
+          → Kept id (starts + length (cond (not t) (started_on (start_in k n c b.voice i) b ∷ []) [])) (drops + length (cond t (started_on (start_in k n c b.voice i) b ∷ []) [])) (started_region k n c b i)
       by-case true e =
           subst (λ (x : Both). Kept id (starts + 0) (drops + 1) x) (sym (started-full e))
           (kept_at id starts (drops + 1) (starts + 0) (drops + 1) _ (omega arith) refl (kept-dropped id starts drops b h (start_in k n c b.voice i)))

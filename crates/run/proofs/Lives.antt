@@ -1,5 +1,7 @@
 -- The life of a record: where the records after a chain of moves come from, and that another voice's starts mark a record at most once.
 -- Assumes nothing.
+use Rattle.std.specs.List.{list_any}
+use Rattle.std.specs.Prelude.{cond, filter}
 use Prim.Native.Nat.{ℕ, ◌+◌, ◌<◌, ◌≤◌, ◌^◌, ◌%◌}
 use mathlib.Core.Path.{◌≡◌, refl, sym, ap, ◌∙◌, subst}
 use mathlib.Core.Bool.{Bool, true, false, not}
@@ -10,7 +12,6 @@ use lib.ListN.{length, length-append}
 use lib.Dec.{eqb, ltb, leb}
 use borrow.Author.Tests.{eqb-true, eq-eqb, ltb-true}
 use Rattle.session.specs.Changes.{Along, end, one, Marked, unchanged, newly, unmarked}
-use Rattle.session.specs.Lists.{pick, keep, any}
 use Rattle.session.specs.Records.{of_voice, entered, in_slots}
 use Rattle.session.specs.Rules.{start_marks, enter, without_slots}
 use Rattle.session.specs.State.{view, slot_list}
@@ -18,9 +19,8 @@ use Rattle.session.specs.declared.PlayerRecord.{PlayerRecord}
 use Rattle.session.specs.declared.Session.{Session}
 use Rattle.session.specs.declared.Start.{Start}
 use Rattle.session.proofs.Laws.{marks-along, marked-same, along-length, along-self}
-use Rattle.session.proofs.Relist.{view-few, view-relist, relist-size}
-use Rattle.session.proofs.Voices.{keep-fewer}
-use Rattle.session.proofs.Walks.{keep_append}
+use Rattle.session.proofs.Relist.{view-few, view-relist, relist-size, keep-fewer}
+use Rattle.std.proofs.lemmas.List.Elements.{filter-append}
 use Rattle.players.specs.Seats.{sounding, is_over, reaped}
 use Rattle.note.specs.declared.NoteState.{NoteState}
 use Rattle.gates.specs.Off.{reaped_both, without_players}
@@ -51,9 +51,9 @@ marks-own : {at : ℕ} (j : ℕ) {rs qs : List PlayerRecord} → Along (Marked a
 marks-own j end = end
 marks-own {at = at} j (one {x = x} {y = y} {xs = xs} {ys = ys} m rest) =
     let v : y.voice ≡ x.voice = ap (λ (r : PlayerRecord). r.voice) (marked-same m) in
-    subst (λ k. Along (Marked at) (records_of j (x ∷ xs)) (pick (eqb k j) (y ∷ records_of j ys) (records_of j ys))) (sym v) (by-case (eqb x.voice j) (marks-own j rest)) where
+    subst (λ k. Along (Marked at) (records_of j (x ∷ xs)) (cond (eqb k j) (y ∷ records_of j ys) (records_of j ys))) (sym v) (by-case (eqb x.voice j) (marks-own j rest)) where
       by-case : (t : Bool) → Along (Marked at) (records_of j xs) (records_of j ys)
-          → Along (Marked at) (pick t (x ∷ records_of j xs) (records_of j xs)) (pick t (y ∷ records_of j ys) (records_of j ys))
+          → Along (Marked at) (cond t (x ∷ records_of j xs) (records_of j xs)) (cond t (y ∷ records_of j ys) (records_of j ys))
       by-case true h = one m h
       by-case false h = h
 
@@ -71,32 +71,32 @@ data From (id n m : ℕ) (rs : List PlayerRecord) (q : PlayerRecord) : Type 0 wh
   began : q.voice ≡ id → (m < 2 ^ 32 → n ≤ q.slot) → From id n m rs q
   came : {r : PlayerRecord} → In r rs → unmarked q ≡ unmarked r → (r.offed ≡ true → q.offed ≡ true) → From id n m rs q
 
-in_kept : (p : PlayerRecord → Bool) (rs : List PlayerRecord) (q : PlayerRecord) → In q (keep p rs) → In q rs
+in_kept : (p : PlayerRecord → Bool) (rs : List PlayerRecord) (q : PlayerRecord) → In q (filter p rs) → In q rs
 in_kept p [] q h = elim h [ ]
 in_kept p (r ∷ rs) q h = by-case q (p r) (in_kept p rs q) h where
-  by-case : (q : PlayerRecord) (t : Bool) → (In q (keep p rs) → In q rs) → In q (pick t (r ∷ keep p rs) (keep p rs)) → In q (r ∷ rs)
+  by-case : (q : PlayerRecord) (t : Bool) → (In q (filter p rs) → In q rs) → In q (cond t (r ∷ filter p rs) (filter p rs)) → In q (r ∷ rs)
   by-case q true f here = here
   by-case q true f (there i) = there (f i)
   by-case q false f i = there (f i)
 
-kept_in : (p : PlayerRecord → Bool) {rs : List PlayerRecord} {q : PlayerRecord} → In q rs → p q ≡ true → In q (keep p rs)
-kept_in p (here {r} {rs}) e = subst (λ t. In r (pick t (r ∷ keep p rs) (keep p rs))) (sym e) here
+kept_in : (p : PlayerRecord → Bool) {rs : List PlayerRecord} {q : PlayerRecord} → In q rs → p q ≡ true → In q (filter p rs)
+kept_in p (here {r} {rs}) e = subst (λ t. In r (cond t (r ∷ filter p rs) (filter p rs))) (sym e) here
 kept_in p (there {r} {q} {rs} i) e = by-case (p q) (kept_in p i e) where
-  by-case : (t : Bool) → In r (keep p rs) → In r (pick t (q ∷ keep p rs) (keep p rs))
+  by-case : (t : Bool) → In r (filter p rs) → In r (cond t (q ∷ filter p rs) (filter p rs))
   by-case true k = there k
   by-case false k = k
 
-kept-holds : (p : PlayerRecord → Bool) (rs : List PlayerRecord) (q : PlayerRecord) → In q (keep p rs) → p q ≡ true
+kept-holds : (p : PlayerRecord → Bool) (rs : List PlayerRecord) (q : PlayerRecord) → In q (filter p rs) → p q ≡ true
 kept-holds p [] q h = elim h [ ]
 kept-holds p (r ∷ rs) q h = by-case q (p r) refl (kept-holds p rs q) h where
-  by-case : (q : PlayerRecord) (t : Bool) → p r ≡ t → (In q (keep p rs) → p q ≡ true) → In q (pick t (r ∷ keep p rs) (keep p rs)) → p q ≡ true
+  by-case : (q : PlayerRecord) (t : Bool) → p r ≡ t → (In q (filter p rs) → p q ≡ true) → In q (cond t (r ∷ filter p rs) (filter p rs)) → p q ≡ true
   by-case q true e f here = e
   by-case q true e f (there i) = f i
   by-case q false e f i = f i
 
 -- a record of a voice that stays was one of its records
-pub in-fewer : (p : PlayerRecord → Bool) (j : ℕ) (rs : List PlayerRecord) (q : PlayerRecord) → In q (records_of j (keep p rs)) → In q (records_of j rs)
-in-fewer p j rs q i = kept_in (of_voice j) (in_kept p rs q (in_kept (of_voice j) (keep p rs) q i)) (kept-holds (of_voice j) (keep p rs) q i)
+pub in-fewer : (p : PlayerRecord → Bool) (j : ℕ) (rs : List PlayerRecord) (q : PlayerRecord) → In q (records_of j (filter p rs)) → In q (records_of j rs)
+in-fewer p j rs q i = kept_in (of_voice j) (in_kept p rs q (in_kept (of_voice j) (filter p rs) q i)) (kept-holds (of_voice j) (filter p rs) q i)
 
 in-append : (rs : List PlayerRecord) (e q : PlayerRecord) → In q (rs ++ (e ∷ [])) → (P : PlayerRecord → Type 0) → ((r : PlayerRecord) → In r rs → P r) → P e → P q
 in-append [] e q here P f g = g
@@ -154,7 +154,7 @@ module _ (st : Start) (s : Session) (size : length s.players ≡ 512) where
   enter-few : (e : PlayerRecord) (rs : List PlayerRecord) → length rs ≤ 512 → length (enter e rs) ≤ 512
   unfolding enter
   enter-few e rs h = by-case (ltb (length rs) 512) refl where
-    by-case : (t : Bool) → ltb (length rs) 512 ≡ t → length (pick t (rs ++ (e ∷ [])) rs) ≤ 512
+    by-case : (t : Bool) → ltb (length rs) 512 ≡ t → length (cond t (rs ++ (e ∷ [])) rs) ≤ 512
     by-case true p = omega (arith, ltb-true (length rs) 512 p, length-append rs (e ∷ []))
     by-case false p = h
 
@@ -167,7 +167,7 @@ module _ (st : Start) (s : Session) (size : length s.players ≡ 512) where
 in-enter : (e q : PlayerRecord) (rs : List PlayerRecord) → In q (enter e rs) → (P : PlayerRecord → Type 0) → ((r : PlayerRecord) → In r rs → P r) → P e → P q
 unfolding enter
 in-enter e q rs h P f g = by-case (ltb (length rs) 512) h where
-  by-case : (t : Bool) → In q (pick t (rs ++ (e ∷ [])) rs) → P q
+  by-case : (t : Bool) → In q (cond t (rs ++ (e ∷ [])) rs) → P q
   by-case true i = in-append rs e q i P f g
   by-case false i = f q i
 
@@ -189,7 +189,7 @@ module _ (id n d : ℕ) (b : Both) (h : Kept id n d b) where
     st : Start
     st = start_in k x c b.voice i
 
-    by-case : (t : Bool) → In q (view (pick {A = Both} t (record { session = marked_by st b.session; voice = dropped_one b.voice })
+    by-case : (t : Bool) → In q (view (cond {A = Both} t (record { session = marked_by st b.session; voice = dropped_one b.voice })
         (record { session = entered_by st b.voice.next_slot (marked_by st b.session); voice = joined_by (player_of k x c b.voice i) b.voice })).session) → From id n m (view b.session) q
     by-case true j = from-marks m st q (subst (λ l. In q l) (view-marked st b.session h.shape.places) j)
     by-case false j =
@@ -198,13 +198,13 @@ module _ (id n d : ℕ) (b : Both) (h : Kept id n d b) where
 
   from-reaped : (m : ℕ) (q : PlayerRecord) → In q (view (reaped_both b).session) → From id n m (view b.session) q
   unfolding reaped_both without_slots
-  from-reaped m q = by-case (any is_over (sounding b.voice.players)) where
-    by-case : (t : Bool) → In q (view (pick {A = Both} t (record { session = without_players b.voice.voice (reaped b.voice.players) b.session; voice = with_players (reaped b.voice.players).players b.voice }) b).session)
+  from-reaped m q = by-case (list_any is_over (sounding b.voice.players)) where
+    by-case : (t : Bool) → In q (view (cond {A = Both} t (record { session = without_players b.voice.voice (reaped b.voice.players) b.session; voice = with_players (reaped b.voice.players).players b.voice }) b).session)
         → From id n m (view b.session) q
     by-case true j =
         let p : PlayerRecord → Bool = λ r. not (in_slots b.voice.voice (slot_list (reaped b.voice.players).gone) r) in
         stayed id n m (view b.session) q (in_kept p (view b.session) q
-        (subst (λ l. In q l) (view-relist b.session h.shape.places (keep p (view b.session)) (omega (arith, keep-fewer p (view b.session), view-few b.session))) j))
+        (subst (λ l. In q l) (view-relist b.session h.shape.places (filter p (view b.session)) (omega (arith, keep-fewer p (view b.session), view-few b.session))) j))
     by-case false j = stayed id n m (view b.session) q j
 
 from-move : {id n d : ℕ} {b c : Both} {xs : List Started} → Move id b xs c → Kept id n d b → (q : PlayerRecord) → In q (view c.session) → From id n (n + players_in xs) (view b.session) q
@@ -213,7 +213,7 @@ from-move {id} {n} {d} (reaps b) h q j = from-reaped id n d b h (n + 0) q j
 from-move {id} {n} (keeps e) h q j = along-from id n (n + 0) own-keeps e.list q j
 
 players-append : (xs ys : List Started) → players_in (xs ++ ys) ≡ players_in xs + players_in ys
-players-append xs ys = ap length (keep_append (λ x. not (is_dropped x)) xs ys) ∙ length-append (keep (λ x. not (is_dropped x)) xs) (keep (λ x. not (is_dropped x)) ys)
+players-append xs ys = ap length (filter-append (λ x. not (is_dropped x)) xs ys) ∙ length-append (filter (λ x. not (is_dropped x)) xs) (filter (λ x. not (is_dropped x)) ys)
 
 kept-one : {id n d : ℕ} {b c : Both} {xs : List Started} → Move id b xs c → Kept id n d b → Kept id (n + players_in xs) (d + drops_in xs) c
 kept-one {id} {n} {d} {c = c} {xs = xs} m h = subst (λ ys. Kept id (n + players_in ys) (d + drops_in ys) c) (append-nil xs) (kept (next m done) h)

@@ -1,4 +1,5 @@
 -- Making a voice leaves the book steady, and so does the start of a run. Assumes nothing.
+use Rattle.std.specs.Prelude.{cond, Some, None}
 use Prim.Native.Nat.{ℕ, ◌+◌, ◌≤◌, ◌^◌}
 use mathlib.Core.Path.{◌≡◌, refl, sym, ap, ◌∙◌, subst}
 use mathlib.Core.Bool.{true, false, ◌&&◌}
@@ -9,7 +10,7 @@ use lib.Dec.{ltb, leb}
 use lib.Ieee.{Float}
 use borrow.Author.Tests.{leb-false, lt-ltb}
 use Rattle.program.specs.declared.bind.BoundProgram.{BoundProgram}
-use Rattle.session.specs.Lists.{pick, elem}
+use Rattle.session.specs.Lists.{elem}
 use Rattle.session.specs.Rules.{slots_of}
 use Rattle.session.specs.State.{view, opened, has_place, placed, with_voices, fresh_session}
 use Rattle.session.specs.declared.Opened.{Opened}
@@ -56,7 +57,7 @@ has-place rate s e =
 opened-place : (s : Session) → has_place s.voices ≡ true → (opened s).session ≡ with_voices (placed s.voices) s
 unfolding opened
 opened-place s e =
-    ap (λ t. (pick {A = Opened} t (record { session = with_voices (placed s.voices) s; id = s.voices.next_voice }) (record { session = s; id = 0 })).session) e
+    ap (λ t. (cond {A = Opened} t (record { session = with_voices (placed s.voices) s; id = Some s.voices.next_voice }) (record { session = s; id = None })).session) e
 
 new-voice : (id : ℕ) (rate : Float) (p : BoundProgram) → Voiced 0 0 false [] (fresh_voice id rate p)
 unfolding no_players

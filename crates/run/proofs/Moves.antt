@@ -1,11 +1,11 @@
 -- A call on a voice as a chain of moves of three kinds: a region's start, finished players that leave, and changes that keep number,
 -- order and identity of records and players. What holds of a whole run is shown once for each kind. Assumes nothing.
+use Rattle.std.specs.Prelude.{filter}
 use Prim.Native.Nat.{ℕ, ◌+◌, ◌≤◌, ◌<◌, ◌^◌, ◌%◌, min}
 use mathlib.Core.Path.{◌≡◌}
 use mathlib.Core.Bool.{true, not}
 use mathlib.Core.List.{List, [], ◌∷◌, ◌++◌}
 use lib.ListN.{length}
-use Rattle.session.specs.Lists.{keep}
 use Rattle.session.specs.Records.{of_voice}
 use Rattle.session.specs.Rules.{slots_of}
 use Rattle.session.specs.State.{view}
@@ -66,4 +66,4 @@ pub record Kept (id starts drops : ℕ) (b : Both) : Type 0 where
   pub under : Sub (slots_of id (view b.session)) (slot_numbers (sounding b.voice.players))
   pub mirror : starts < 2 ^ 32 → (slots_of id (view b.session) ≡ slot_numbers (sounding b.voice.players)) × Rising starts (slot_numbers (sounding b.voice.players))
   -- the records of the other voices
-  pub room : length (keep (λ r. not (of_voice id r)) (view b.session)) ≤ 480
+  pub room : length (filter (λ r. not (of_voice id r)) (view b.session)) ≤ 480

@@ -1,14 +1,16 @@
 -- What one move keeps, and hence a chain of moves. Assumes nothing.
+use Rattle.std.specs.List.{list_any}
+use Rattle.std.specs.Prelude.{filter}
 use Prim.Native.Nat.{ℕ, ◌+◌}
 use mathlib.Core.Path.{◌≡◌, refl, ◌∙◌, ap}
 use mathlib.Core.Bool.{Bool, true, false, not}
 use mathlib.Core.List.{List, ◌++◌}
 use native.Mathlib.Omega.{arith}
 use lib.ListN.{length, length-append}
-use Rattle.session.specs.Lists.{any, elem, keep}
+use Rattle.session.specs.Lists.{elem}
 use Rattle.session.specs.State.{view}
 use Rattle.session.proofs.Laws.{slots-along}
-use Rattle.session.proofs.Walks.{keep_append}
+use Rattle.std.proofs.lemmas.List.Elements.{filter-append}
 use Rattle.events.specs.declared.Both.{Both}
 use Rattle.run.specs.Run.{records_of, Follows, is_dropped, players_in, drops_in}
 use Rattle.run.specs.Starts.{Started}
@@ -44,8 +46,8 @@ voices-move (keeps k) = k.voices
 
 -- ---- a chain of moves
 
-number-both : (p : Started → Bool) (xs ys : List Started) → length (keep p (xs ++ ys)) ≡ length (keep p xs) + length (keep p ys)
-number-both p xs ys = ap length (keep_append p xs ys) ∙ length-append (keep p xs) (keep p ys)
+number-both : (p : Started → Bool) (xs ys : List Started) → length (filter p (xs ++ ys)) ≡ length (filter p xs) + length (filter p ys)
+number-both p xs ys = ap length (filter-append p xs ys) ∙ length-append (filter p xs) (filter p ys)
 
 -- what a voice keeps, with the players that it started and the starts that were dropped
 pub kept : {id s d : ℕ} {b c : Both} {xs : List Started} → Moves id b xs c → Kept id s d b → Kept id (s + players_in xs) (d + drops_in xs) c
@@ -71,7 +73,7 @@ voices-same (next m ms) = voices-same ms ∙ voices-move m
 
 -- no record comes in of a voice outside
 pub no-stray-after : {id s d : ℕ} {b c : Both} {xs : List Started} → Moves id b xs c → Kept id s d b → (is : List ℕ) → elem id is ≡ true
-    → any (λ r. not (elem r.voice is)) (view b.session) ≡ false → any (λ r. not (elem r.voice is)) (view c.session) ≡ false
+    → list_any (λ r. not (elem r.voice is)) (view b.session) ≡ false → list_any (λ r. not (elem r.voice is)) (view c.session) ≡ false
 no-stray-after done h is live e = e
 no-stray-after {s = s} {d = d} (next {xs = xs} m ms) h is live e =
     no-stray-after {s = s + players_in xs} {d = d + drops_in xs} ms (kept_move s d m h) is live (row-stray is live (row_move s d m h) e)

@@ -1,5 +1,7 @@
 -- What a move does to the session's list, over plain lists: the records of the other voices, and that none is of a voice
 -- outside. Assumes nothing.
+use Rattle.std.specs.List.{list_any}
+use Rattle.std.specs.Prelude.{cond, filter, ◌||◌}
 use Prim.Native.Nat.{ℕ, suc, ◌+◌, ◌≤◌}
 use mathlib.Core.Path.{◌≡◌, refl, sym, ap, subst, ◌∙◌}
 use mathlib.Core.Bool.{Bool, true, false, not}
@@ -8,7 +10,7 @@ use native.Mathlib.Omega.{arith}
 use lib.ListN.{length}
 use lib.Dec.{eqb}
 use borrow.Author.Tests.{ne_eqb}
-use Rattle.session.specs.Lists.{pick, keep, any, elem}
+use Rattle.session.specs.Lists.{elem}
 use Rattle.session.specs.Changes.{Along, end, one, Marked, unmarked}
 use Rattle.session.specs.Records.{of_voice, in_slots}
 use Rattle.session.specs.Rules.{start_marks, without_slots}
@@ -30,52 +32,52 @@ pub data Row (id : ℕ) : List PlayerRecord → List Started → List PlayerReco
 -- ---- lists along each other
 
 module _ {A : Type 0} {R : A → A → Type 0} (p : A → Bool) (same_test : (x y : A) → R x y → p y ≡ p x) where
-  count-along : {xs ys : List A} → Along R xs ys → length (keep p ys) ≡ length (keep p xs)
+  count-along : {xs ys : List A} → Along R xs ys → length (filter p ys) ≡ length (filter p xs)
   count-along end = refl
   count-along (one {x} {y} {xs} {ys} r rest) =
-      ap (λ t. length (pick t (y ∷ keep p ys) (keep p ys))) (same_test x y r) ∙ by-case (p x) (count-along rest) where
-        by-case : (t : Bool) → length (keep p ys) ≡ length (keep p xs) → length (pick t (y ∷ keep p ys) (keep p ys)) ≡ length (pick t (x ∷ keep p xs) (keep p xs))
+      ap (λ t. length (cond t (y ∷ filter p ys) (filter p ys))) (same_test x y r) ∙ by-case (p x) (count-along rest) where
+        by-case : (t : Bool) → length (filter p ys) ≡ length (filter p xs) → length (cond t (y ∷ filter p ys) (filter p ys)) ≡ length (cond t (x ∷ filter p xs) (filter p xs))
         by-case true e = ap suc e
         by-case false e = e
 
-  any-along : {xs ys : List A} → Along R xs ys → any p ys ≡ any p xs
+  any-along : {xs ys : List A} → Along R xs ys → list_any p ys ≡ list_any p xs
   any-along end = refl
-  any-along (one {x} {y} {xs} {ys} r rest) = ap (λ t. pick t true (any p ys)) (same_test x y r) ∙ ap (λ t. pick (p x) true t) (any-along rest)
+  any-along (one {x} {y} {xs} {ys} r rest) = ap (λ t. t || list_any p ys) (same_test x y r) ∙ ap (λ t. p x || t) (any-along rest)
 
 -- ---- filters
 
 module _ {A : Type 0} (p : A → Bool) where
-  pub parted : (xs : List A) → length xs ≡ length (keep p xs) + length (keep (λ x. not (p x)) xs)
+  pub parted : (xs : List A) → length xs ≡ length (filter p xs) + length (filter (λ x. not (p x)) xs)
   parted [] = refl
   parted (x ∷ xs) = by-case (p x) (parted xs) where
-    by-case : (t : Bool) → length xs ≡ length (keep p xs) + length (keep (λ y. not (p y)) xs)
-        → suc (length xs) ≡ length (pick t (x ∷ keep p xs) (keep p xs)) + length (pick (not t) (x ∷ keep (λ y. not (p y)) xs) (keep (λ y. not (p y)) xs))
+    by-case : (t : Bool) → length xs ≡ length (filter p xs) + length (filter (λ y. not (p y)) xs)
+        → suc (length xs) ≡ length (cond t (x ∷ filter p xs) (filter p xs)) + length (cond (not t) (x ∷ filter (λ y. not (p y)) xs) (filter (λ y. not (p y)) xs))
     by-case true e = omega arith
     by-case false e = omega arith
 
-  pub kept-fewer : (q : A → Bool) (xs : List A) → length (keep p (keep q xs)) ≤ length (keep p xs)
+  pub kept-fewer : (q : A → Bool) (xs : List A) → length (filter p (filter q xs)) ≤ length (filter p xs)
   kept-fewer q [] = omega arith
   kept-fewer q (x ∷ xs) = by-case (q x) (p x) refl (kept-fewer q xs) where
-    by-case : (t u : Bool) → p x ≡ u → length (keep p (keep q xs)) ≤ length (keep p xs)
-        → length (keep p (pick t (x ∷ keep q xs) (keep q xs))) ≤ length (pick u (x ∷ keep p xs) (keep p xs))
-    by-case true true e h = let z = ap (λ u. length (pick u (x ∷ keep p (keep q xs)) (keep p (keep q xs)))) e in omega arith
-    by-case true false e h = let z = ap (λ u. length (pick u (x ∷ keep p (keep q xs)) (keep p (keep q xs)))) e in omega arith
+    by-case : (t u : Bool) → p x ≡ u → length (filter p (filter q xs)) ≤ length (filter p xs)
+        → length (filter p (cond t (x ∷ filter q xs) (filter q xs))) ≤ length (cond u (x ∷ filter p xs) (filter p xs))
+    by-case true true e h = let z = ap (λ u. length (cond u (x ∷ filter p (filter q xs)) (filter p (filter q xs)))) e in omega arith
+    by-case true false e h = let z = ap (λ u. length (cond u (x ∷ filter p (filter q xs)) (filter p (filter q xs)))) e in omega arith
     by-case false true e h = omega arith
     by-case false false e h = h
 
-  any-kept : (q : A → Bool) (xs : List A) → any p xs ≡ false → any p (keep q xs) ≡ false
+  any-kept : (q : A → Bool) (xs : List A) → list_any p xs ≡ false → list_any p (filter q xs) ≡ false
   any-kept q [] e = refl
   any-kept q (x ∷ xs) e = by-case (q x) (p x) refl e (any-kept q xs) where
-    by-case : (t u : Bool) → p x ≡ u → pick u true (any p xs) ≡ false → (any p xs ≡ false → any p (keep q xs) ≡ false)
-        → any p (pick t (x ∷ keep q xs) (keep q xs)) ≡ false
+    by-case : (t u : Bool) → p x ≡ u → u || list_any p xs ≡ false → (list_any p xs ≡ false → list_any p (filter q xs) ≡ false)
+        → list_any p (cond t (x ∷ filter q xs) (filter q xs)) ≡ false
     by-case t true f h rest = absurd (let y : true ≡ false = h in let z : ◌≡◌ {A = ℕ} 0 1 = cc in omega arith)
-    by-case true false f h rest = ap (λ u. pick u true (any p (keep q xs))) f ∙ rest h
+    by-case true false f h rest = ap (λ u. u || list_any p (filter q xs)) f ∙ rest h
     by-case false false f h rest = rest h
 
-  any-one-more : (x : A) → p x ≡ false → (xs : List A) → any p xs ≡ false → any p (xs ++ (x ∷ [])) ≡ false
-  any-one-more x f [] e = ap (λ t. pick t true false) f
+  any-one-more : (x : A) → p x ≡ false → (xs : List A) → list_any p xs ≡ false → list_any p (xs ++ (x ∷ [])) ≡ false
+  any-one-more x f [] e = ap (λ t. t || false) f
   any-one-more x f (y ∷ ys) e = by-case (p y) e (any-one-more x f ys) where
-    by-case : (t : Bool) → pick t true (any p ys) ≡ false → (any p ys ≡ false → any p (ys ++ (x ∷ [])) ≡ false) → pick t true (any p (ys ++ (x ∷ []))) ≡ false
+    by-case : (t : Bool) → t || list_any p ys ≡ false → (list_any p ys ≡ false → list_any p (ys ++ (x ∷ [])) ≡ false) → t || list_any p (ys ++ (x ∷ [])) ≡ false
     by-case true h rest = h
     by-case false h rest = rest h
 
@@ -97,7 +99,7 @@ module _ {id : ℕ} where
 
 -- the number of the other voices' records
 abbrev pub elsewhere : ℕ → List PlayerRecord → ℕ
-elsewhere id rs = length (keep (λ r. not (of_voice id r)) rs)
+elsewhere id rs = length (filter (λ r. not (of_voice id r)) rs)
 
 module _ (id : ℕ) where
   pub elsewhere-along : {R : PlayerRecord → PlayerRecord → Type 0} → ((r q : PlayerRecord) → R r q → q.voice ≡ r.voice) → {rs qs : List PlayerRecord}
@@ -115,18 +117,18 @@ module _ (id j : ℕ) (n : j ≡ id → ⊥) where
 
   own-away : {rs qs : List PlayerRecord} → Along (Own id) rs qs → records_of j qs ≡ records_of j rs
   own-away end = refl
-  own-away (one {x = r} same rest) = ap (λ l. pick (of_voice j r) (r ∷ l) l) (own-away rest)
+  own-away (one {x = r} same rest) = ap (λ l. cond (of_voice j r) (r ∷ l) l) (own-away rest)
   own-away (one {x = r} {y = q} {xs = rs} {ys = qs} (own v e f) rest) =
-      ap (λ t. pick t (q ∷ records_of j qs) (records_of j qs)) (not-its q (own-voice r q (own v e f) ∙ v))
+      ap (λ t. cond t (q ∷ records_of j qs) (records_of j qs)) (not-its q (own-voice r q (own v e f) ∙ v))
       ∙ own-away rest
-      ∙ sym (ap (λ t. pick t (r ∷ records_of j rs) (records_of j rs)) (not-its r v))
+      ∙ sym (ap (λ t. cond t (r ∷ records_of j rs) (records_of j rs)) (not-its r v))
 
   pub row-follows : {rs qs : List PlayerRecord} {xs : List Started} → Row id rs xs qs → Follows j xs (records_of j rs) (records_of j qs)
   row-follows (marked st live rs) = (refl, refl)
   row-follows (entered st live rs r e) = (
     refl,
     records-entered j r (start_marks st rs)
-        ∙ ap (λ t. records_of j (start_marks st rs) ++ pick t (r ∷ []) []) (not-its r e)
+        ∙ ap (λ t. records_of j (start_marks st rs) ++ cond t (r ∷ []) []) (not-its r e)
         ∙ append-nil (records_of j (start_marks st rs)),
   )
   row-follows (removed ks rs) = slots-others j id ks n rs
@@ -146,7 +148,7 @@ abbrev stray : List ℕ → PlayerRecord → Bool
 stray is r = not (elem r.voice is)
 
 pub row-stray : {id : ℕ} {rs qs : List PlayerRecord} {xs : List Started} → (is : List ℕ) → elem id is ≡ true → Row id rs xs qs
-    → any (stray is) rs ≡ false → any (stray is) qs ≡ false
+    → list_any (stray is) rs ≡ false → list_any (stray is) qs ≡ false
 unfolding without_slots
 row-stray is h (marked st live rs) e = any-along (stray is) (λ r q m. ap (λ (v : ℕ). not (elem v is)) (marked-voice r q m)) (marks-along st rs) ∙ e
 row-stray is h (entered st live rs r v) e =

@@ -1,4 +1,6 @@
 -- Chains of moves one after the other, and the shape of a voice and its session, which every move keeps. Assumes nothing.
+use Rattle.std.specs.List.{list_any}
+use Rattle.std.specs.Prelude.{cond, filter}
 use Prim.Native.Nat.{ℕ, ◌≤◌}
 use mathlib.Core.Path.{◌≡◌, refl, ◌∙◌}
 use mathlib.Core.Bool.{Bool, true, false, not}
@@ -7,7 +9,6 @@ use native.Mathlib.Omega.{arith}
 use lib.ListN.{length, length-append, length-set}
 use lib.Dec.{ltb, leb}
 use borrow.Author.Tests.{leb-false, ltb-true}
-use Rattle.session.specs.Lists.{pick, keep, any}
 use Rattle.session.specs.Records.{in_slots}
 use Rattle.session.specs.Rules.{start_marks, enter, without_slots}
 use Rattle.session.specs.State.{view, relist, slot_list}
@@ -46,7 +47,7 @@ relisted s ks size h = record { list = h; places = relist-size s size ks h }
 enter-few : (r : PlayerRecord) (rs : List PlayerRecord) → length rs ≤ 512 → length (enter r rs) ≤ 512
 unfolding enter
 enter-few r rs h = by-case (ltb (length rs) 512) refl where
-  by-case : (t : Bool) → ltb (length rs) 512 ≡ t → length (pick t (rs ++ (r ∷ [])) rs) ≤ 512
+  by-case : (t : Bool) → ltb (length rs) 512 ≡ t → length (cond t (rs ++ (r ∷ [])) rs) ≤ 512
   by-case true e = omega (arith, length-append rs (r ∷ []), ltb-true (length rs) 512 e)
   by-case false e = h
 
@@ -71,7 +72,7 @@ module _ (id : ℕ) (b : Both) (h : Shape id b) where
     marked = marked-listed st b.session h.places
 
     by-case : (t : Bool) → leb 32 b.voice.players.count ≡ t
-        → Shape id (pick t (record { session = marked_by st b.session; voice = dropped_one b.voice })
+        → Shape id (cond t (record { session = marked_by st b.session; voice = dropped_one b.voice })
         (record { session = entered_by st b.voice.next_slot (marked_by st b.session); voice = joined_by (player_of k n c b.voice i) b.voice }))
     by-case true e = record { voice = h.voice; list = marked.list; places = marked.places; few = h.few; seats = h.seats }
     by-case false e =
@@ -90,7 +91,7 @@ module _ (id : ℕ) (b : Both) (h : Shape id b) where
       relisted b.session (without_slots b.voice.voice (slot_list (reaped b.voice.players).gone) (view b.session)) h.places
       (omega (arith, keep-few (λ (r : PlayerRecord). not (in_slots b.voice.voice (slot_list (reaped b.voice.players).gone) r)) (view b.session), view-few b.session))
 
-  stay-few : length (keep (λ (p : Player). not (is_over p)) (sounding b.voice.players)) ≤ 32
+  stay-few : length (filter (λ (p : Player). not (is_over p)) (sounding b.voice.players)) ≤ 32
   stay-few = omega (arith, keep-few (λ (p : Player). not (is_over p)) (sounding b.voice.players), sounding-few b.voice.players)
 
   reaped-few : (reaped b.voice.players).players.count ≤ 32
@@ -100,13 +101,13 @@ module _ (id : ℕ) (b : Both) (h : Shape id b) where
   reaped-seats : length (reaped b.voice.players).players.players ≡ 32
   unfolding reaped
   reaped-seats =
-      packed-size (keep (λ (p : Player). not (is_over p)) (sounding b.voice.players)) b.voice.players.players (omega (arith, stay-few, h.seats)) ∙ h.seats
+      packed-size (filter (λ (p : Player). not (is_over p)) (sounding b.voice.players)) b.voice.players.players (omega (arith, stay-few, h.seats)) ∙ h.seats
 
   pub shape-reaped : Shape id (reaped_both b)
   unfolding reaped_both
-  shape-reaped = by-case (any is_over (sounding b.voice.players)) where
+  shape-reaped = by-case (list_any is_over (sounding b.voice.players)) where
     by-case : (t : Bool)
-        → Shape id (pick t (record { session = without_players b.voice.voice (reaped b.voice.players) b.session; voice = with_players (reaped b.voice.players).players b.voice }) b)
+        → Shape id (cond t (record { session = without_players b.voice.voice (reaped b.voice.players) b.session; voice = with_players (reaped b.voice.players).players b.voice }) b)
     by-case true = record { voice = h.voice; list = gone-listed.list; places = gone-listed.places; few = reaped-few; seats = reaped-seats }
     by-case false = h
 

@@ -1,4 +1,5 @@
 -- Changes that keep number, order and identity of records and players. Assumes nothing.
+use Rattle.std.specs.Prelude.{cond}
 use Prim.Native.Nat.{ℕ, ◌≤◌}
 use mathlib.Core.Path.{◌≡◌, refl, sym, ap, ◌∙◌}
 use mathlib.Core.Bool.{Bool, true, false}
@@ -8,7 +9,7 @@ use lib.ListN.{length, length-map}
 use lib.Dec.{eqb}
 use lib.Ieee.{Float}
 use Rattle.session.specs.Changes.{Along, end, one, OwnChange, untouched, turned, unmarked}
-use Rattle.session.specs.Lists.{pick, change_where, change_first}
+use Rattle.session.specs.Lists.{change_where, change_first}
 use Rattle.session.specs.Records.{collected, ended}
 use Rattle.session.specs.Rules.{collect, collect_first, mark_ended}
 use Rattle.session.specs.Offs.{collected_offs, took_first}
@@ -90,7 +91,7 @@ module _ (id : ℕ) (b : Both) (h : Shape id b) where
 
   pub keeps-ended : (ks : Slots) → Keeps id b (record { session = with_ended b.voice.voice ks b.session; voice = b.voice })
   keeps-ended ks = by-case (eqb ks.count 0) where
-    by-case : (t : Bool) → Keeps id b (record { session = pick t b.session (relist (mark_ended b.voice.voice (slot_list ks) (view b.session)) b.session); voice = b.voice })
+    by-case : (t : Bool) → Keeps id b (record { session = cond t b.session (relist (mark_ended b.voice.voice (slot_list ks) (view b.session)) b.session); voice = b.voice })
     by-case true = keeps_same id b b refl refl refl refl refl refl refl h
     by-case false =
         keeps-list (mark_ended b.voice.voice (slot_list ks) (view b.session))

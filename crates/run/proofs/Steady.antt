@@ -1,4 +1,5 @@
 -- What holds of the book between calls, and what it leaves to a call on a live voice. Assumes nothing.
+use Rattle.std.specs.Prelude.{filter}
 use Prim.Native.Nat.{ℕ, ◌<◌, ◌≤◌, ◌^◌, ◌%◌, min}
 use mathlib.Core.Path.{◌≡◌, refl, sym, ap, ◌∙◌}
 use mathlib.Core.Bool.{Bool, true, false, not}
@@ -6,7 +7,7 @@ use mathlib.Core.Logic.{⊎_elim}
 use mathlib.Core.List.{List, []}
 use native.Mathlib.Omega.{arith}
 use lib.ListN.{length, length-map}
-use Rattle.session.specs.Lists.{keep, elem, used_of}
+use Rattle.session.specs.Lists.{elem, used_of}
 use Rattle.session.specs.Records.{of_voice}
 use Rattle.session.specs.Rules.{slots_of, without_voice}
 use Rattle.session.specs.State.{view}
@@ -75,11 +76,11 @@ module _ (b : Book) (h : Steady b) where
     by-case false e = omega (arith, ap length (none_of i e))
 
   -- at most fifteen other voices, with at most 32 records each
-  pub room : (id : ℕ) → is_live b id ≡ true → length (keep (λ r. not (of_voice id r)) (view b.world.session)) ≤ 480
+  pub room : (id : ℕ) → is_live b id ≡ true → length (filter (λ r. not (of_voice id r)) (view b.world.session)) ≤ 480
   unfolding without_voice
   room id live =
       let rs = without_voice id (view b.world.session) in
-      let is = keep (others id) (ids_in b.world) in
+      let is = filter (others id) (ids_in b.world) in
       omega (
         arith,
         count-in is rs (strays-without id (ids_in b.world) (view b.world.session) h.known),

@@ -1,4 +1,6 @@
 -- Functions of a voice's id with one place put anew, sums over the live voices, and the records that lists of ids allow. Assumes nothing.
+use Rattle.std.specs.List.{list_any}
+use Rattle.std.specs.Prelude.{cond, filter, ◌||◌}
 use Prim.Native.Nat.{ℕ, suc, ◌+◌, ◌*◌, ◌<◌, ◌≤◌}
 use mathlib.Core.Path.{◌≡◌, refl, sym, ap, ◌∙◌, fun_ext}
 use mathlib.Core.Bool.{Bool, true, false, not}
@@ -9,7 +11,7 @@ use native.Mathlib.Nat.{mul-suc}
 use lib.ListN.{length}
 use lib.Dec.{eqb}
 use borrow.Author.Tests.{eq-eqb, ne_eqb, eqb-true, eqb-false}
-use Rattle.session.specs.Lists.{pick, keep, any, elem}
+use Rattle.session.specs.Lists.{elem}
 use Rattle.session.specs.Records.{of_voice}
 use Rattle.session.specs.Rules.{without_voice}
 use Rattle.session.specs.declared.PlayerRecord.{PlayerRecord}
@@ -49,7 +51,7 @@ elem-head k i is e n = simp (ne_eqb i k n) at e
 
 elem-tail : (k i : ℕ) (is : List ℕ) → elem k (i ∷ is) ≡ false → elem k is ≡ false
 elem-tail k i is e = by-case (eqb i k) e where
-  by-case : (t : Bool) → pick t true (elem k is) ≡ false → elem k is ≡ false
+  by-case : (t : Bool) → t || elem k is ≡ false → elem k is ≡ false
   by-case true p = clash p
   by-case false p = p
 
@@ -58,12 +60,12 @@ elem-not k i is e p = let z : true ≡ false = simp (eq-eqb i k p) at e in clash
 
 pub elem-snoc : (k : ℕ) (is : List ℕ) (j : ℕ) → (j ≡ k → ⊥) → elem k (is ++ (j ∷ [])) ≡ elem k is
 elem-snoc k [] j n = simp (ne_eqb j k n)
-elem-snoc k (i ∷ is) j n = ap (λ t. pick (eqb i k) true t) (elem-snoc k is j n)
+elem-snoc k (i ∷ is) j n = ap (λ t. eqb i k || t) (elem-snoc k is j n)
 
 pub elem-snoc-here : (is : List ℕ) (j : ℕ) → elem j (is ++ (j ∷ [])) ≡ true
 elem-snoc-here [] j = simp (eq-eqb j j refl)
-elem-snoc-here (i ∷ is) j = ap (λ t. pick (eqb i j) true t) (elem-snoc-here is j) ∙ pick_true (eqb i j) where
-  pick_true : (t : Bool) → pick t true true ≡ true
+elem-snoc-here (i ∷ is) j = ap (λ t. eqb i j || t) (elem-snoc-here is j) ∙ pick_true (eqb i j) where
+  pick_true : (t : Bool) → t || true ≡ true
   pick_true true = refl
   pick_true false = refl
 
@@ -72,33 +74,33 @@ distinct_snoc [] j d e = more refl none
 distinct_snoc (i ∷ is) j (more n d) e = more (elem-snoc i is j (λ p. elem-not j i is e (sym p)) ∙ n) (distinct_snoc is j d (elem-tail j i is e))
 
 module _ (id : ℕ) where
-  pub elem-keep-away : (i : ℕ) (is : List ℕ) → (i ≡ id → ⊥) → elem i (keep (others id) is) ≡ elem i is
+  pub elem-keep-away : (i : ℕ) (is : List ℕ) → (i ≡ id → ⊥) → elem i (filter (others id) is) ≡ elem i is
   elem-keep-away i [] n = refl
   elem-keep-away i (j ∷ is) n = ⊎_elim
       (λ (e : j ≡ id). simp (eq-eqb j id e, ne_eqb j i (λ p. n (sym p ∙ e))) (elem-keep-away i is n))
-      (λ m. simp (ne_eqb j id m) (ap (λ t. pick (eqb j i) true t) (elem-keep-away i is n))) (same? j id)
+      (λ m. simp (ne_eqb j id m) (ap (λ t. eqb j i || t) (elem-keep-away i is n))) (same? j id)
 
-  pub elem-keep-here : (is : List ℕ) → elem id (keep (others id) is) ≡ false
+  pub elem-keep-here : (is : List ℕ) → elem id (filter (others id) is) ≡ false
   elem-keep-here [] = refl
   elem-keep-here (j ∷ is) = ⊎_elim (λ (e : j ≡ id). simp (eq-eqb j id e) (elem-keep-here is)) (λ m. simp (ne_eqb j id m) (elem-keep-here is)) (same? j id)
 
-  pub elem-keep-none : (i : ℕ) (is : List ℕ) → elem i is ≡ false → elem i (keep (others id) is) ≡ false
+  pub elem-keep-none : (i : ℕ) (is : List ℕ) → elem i is ≡ false → elem i (filter (others id) is) ≡ false
   elem-keep-none i is h = ⊎_elim (λ (e : i ≡ id). rw e (elem-keep-here is)) (λ n. elem-keep-away i is n ∙ h) (same? i id)
 
-  pub distinct-keep : (is : List ℕ) → Distinct is → Distinct (keep (others id) is)
+  pub distinct-keep : (is : List ℕ) → Distinct is → Distinct (filter (others id) is)
   distinct-keep [] none = none
   distinct-keep (j ∷ is) (more n d) = ⊎_elim (λ (e : j ≡ id). simp (eq-eqb j id e) (distinct-keep is d))
       (λ m. simp (ne_eqb j id m) (more (elem-keep-none j is n) (distinct-keep is d))) (same? j id)
 
   -- one that stands there leaves fewer
-  pub keep-one-fewer : (is : List ℕ) → elem id is ≡ true → length (keep (others id) is) < length is
+  pub keep-one-fewer : (is : List ℕ) → elem id is ≡ true → length (filter (others id) is) < length is
   keep-one-fewer [] e = clash (sym e)
   keep-one-fewer (j ∷ is) e = ⊎_elim (λ (p : j ≡ id). simp (eq-eqb j id p) (omega (arith, fewer is)))
       (λ m. simp (ne_eqb j id m) (omega (arith, keep-one-fewer is (elem-head id j is e m)))) (same? j id) where
-        fewer : (is : List ℕ) → length (keep (others id) is) ≤ length is
+        fewer : (is : List ℕ) → length (filter (others id) is) ≤ length is
         fewer [] = omega arith
         fewer (i ∷ is) = by-case (others id i) (fewer is) where
-          by-case : (t : Bool) → length (keep (others id) is) ≤ length is → length (pick t (i ∷ keep (others id) is) (keep (others id) is)) ≤ suc (length is)
+          by-case : (t : Bool) → length (filter (others id) is) ≤ length is → length (cond t (i ∷ filter (others id) is) (filter (others id) is)) ≤ suc (length is)
           by-case true h = omega arith
           by-case false h = omega arith
 
@@ -141,7 +143,7 @@ sum-term f k [] e = clash (sym e)
 sum-term f k (i ∷ is) e = ⊎_elim (λ (p : i ≡ k). let q : f i ≡ f k = ap f p in omega arith)
     (λ n. omega (arith, sum-term f k is (elem-head k i is e n))) (same? i k)
 
-pub sum_drop : (id : ℕ) (f : ℕ → ℕ) → f id ≡ 0 → (is : List ℕ) → sum_over f (keep (others id) is) ≡ sum_over f is
+pub sum_drop : (id : ℕ) (f : ℕ → ℕ) → f id ≡ 0 → (is : List ℕ) → sum_over f (filter (others id) is) ≡ sum_over f is
 sum_drop id f z [] = refl
 sum_drop id f z (j ∷ is) = ⊎_elim
     (λ (e : j ≡ id). let q : f j ≡ 0 = ap f e ∙ z in simp (eq-eqb j id e) (omega (arith, sum_drop id f z is)))
@@ -161,11 +163,11 @@ sum-rises f g k h r (i ∷ is) e = ⊎_elim (λ (p : i ≡ k). let a : f i ≡ f
 
 -- some record is of a voice that is not among these
 abbrev pub strays : List ℕ → List PlayerRecord → Bool
-strays is rs = any (λ (r : PlayerRecord). not (elem r.voice is)) rs
+strays is rs = list_any (λ (r : PlayerRecord). not (elem r.voice is)) rs
 
 strays-head : (is : List ℕ) (r : PlayerRecord) (rs : List PlayerRecord) → strays is (r ∷ rs) ≡ false → (elem r.voice is ≡ true) × (strays is rs ≡ false)
 strays-head is r rs e = by-case (elem r.voice is) refl e where
-  by-case : (t : Bool) → elem r.voice is ≡ t → pick (not t) true (strays is rs) ≡ false → (elem r.voice is ≡ true) × (strays is rs ≡ false)
+  by-case : (t : Bool) → elem r.voice is ≡ t → not t || strays is rs ≡ false → (elem r.voice is ≡ true) × (strays is rs ≡ false)
   by-case true p h = (p, h)
   by-case false p h = clash h
 
@@ -180,7 +182,7 @@ count-in is (r ∷ rs) e =
     omega (arith, count-in is rs h.1, sum-rises (λ i. length (records_of i rs)) (λ i. length (records_of i (r ∷ rs))) r.voice grows rises is h.0) where
       grows : (i : ℕ) → length (records_of i rs) ≤ length (records_of i (r ∷ rs))
       grows i = by-case (of_voice i r) where
-        by-case : (t : Bool) → length (records_of i rs) ≤ length (pick t (r ∷ records_of i rs) (records_of i rs))
+        by-case : (t : Bool) → length (records_of i rs) ≤ length (cond t (r ∷ records_of i rs) (records_of i rs))
         by-case true = omega arith
         by-case false = omega arith
 
@@ -188,14 +190,14 @@ count-in is (r ∷ rs) e =
       rises = simp (eq-eqb r.voice r.voice refl) (omega arith)
 
 -- a voice and its records leave together
-pub strays-without : (id : ℕ) (is : List ℕ) (rs : List PlayerRecord) → strays is rs ≡ false → strays (keep (others id) is) (without_voice id rs) ≡ false
+pub strays-without : (id : ℕ) (is : List ℕ) (rs : List PlayerRecord) → strays is rs ≡ false → strays (filter (others id) is) (without_voice id rs) ≡ false
 unfolding without_voice
 strays-without id is [] e = refl
 strays-without id is (r ∷ rs) e =
     let h = strays-head is r rs e in
     let rest = strays-without id is rs h.1 in
     ⊎_elim (λ (p : r.voice ≡ id). simp (eq-eqb r.voice id p) rest)
-    (λ n. simp (ne_eqb r.voice id n) (strays-cons (keep (others id) is) r (without_voice id rs) (elem-keep-away id r.voice is n ∙ h.0) rest)) (same? r.voice id)
+    (λ n. simp (ne_eqb r.voice id n) (strays-cons (filter (others id) is) r (without_voice id rs) (elem-keep-away id r.voice is n ∙ h.0) rest)) (same? r.voice id)
 
 -- where none was of another voice, none is
 pub strays-fewer : (id : ℕ) (is : List ℕ) (rs : List PlayerRecord) → strays is rs ≡ false → strays is (without_voice id rs) ≡ false

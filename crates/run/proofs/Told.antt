@@ -1,4 +1,5 @@
 -- What the answer of a call that is done tells. Assumes nothing.
+use Rattle.std.specs.Prelude.{cond}
 use Prim.Native.Nat.{ℕ, ◌<◌}
 use mathlib.Core.Path.{◌≡◌, refl, sym, ap, ◌∙◌}
 use mathlib.Core.Bool.{Bool, true, false, not, ◌&&◌}
@@ -6,7 +7,7 @@ use native.Mathlib.Omega.{arith}
 use lib.ListN.{length}
 use lib.Dec.{eqb}
 use borrow.Author.Tests.{eqb-false, not-true}
-use Rattle.session.specs.Lists.{pick, elem}
+use Rattle.session.specs.Lists.{elem}
 use Rattle.session.specs.State.{live_ids}
 use Rattle.session.specs.Tests as tests
 use Rattle.session.specs.declared.Session.{Session}
@@ -29,16 +30,16 @@ and_left : (a b : Bool) → a && b ≡ true → a ≡ true
 and_left true b e = refl
 and_left false b e = e
 
-block-tests : (p q r : Bool) → pick p (pick q (pick r Done TooLate) BadState) BadBlock ≡ Done → (p ≡ true) × (q ≡ true)
+block-tests : (p q r : Bool) → cond p (cond q (cond r Done TooLate) BadState) BadBlock ≡ Done → (p ≡ true) × (q ≡ true)
 block-tests true true r e = (refl, refl)
 block-tests true false r e = never e refl
 block-tests false q r e = never e refl
 
-end_test : (p : Bool) → pick p Done BadState ≡ Done → p ≡ true
+end_test : (p : Bool) → cond p Done BadState ≡ Done → p ≡ true
 end_test true e = refl
 end_test false e = never e refl
 
-pub make-tests : (p q r : Bool) → pick p (pick q TooManyVoices (pick r Done TooLate)) BadRate ≡ Done → (q ≡ false) × (r ≡ true)
+pub make-tests : (p q r : Bool) → cond p (cond q TooManyVoices (cond r Done TooLate)) BadRate ≡ Done → (q ≡ false) × (r ≡ true)
 make-tests true true r e = never e refl
 make-tests true false true e = (refl, refl)
 make-tests true false false e = never e refl

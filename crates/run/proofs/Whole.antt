@@ -1,4 +1,5 @@
 -- The claim over a whole run: of every run of the port from a fresh session, at its end and at each call on the way. Assumes nothing.
+use Rattle.std.specs.Prelude.{cond, Some, None}
 use Prim.Native.Nat.{ℕ, ◌+◌, ◌≤◌, ◌<◌, ◌^◌}
 use mathlib.Core.Path.{◌≡◌, refl, sym, ap, ◌∙◌, subst}
 use mathlib.Core.Bool.{Bool, true, false, not}
@@ -7,7 +8,6 @@ use native.Mathlib.Omega.{arith}
 use lib.ListN.{length}
 use lib.Ieee.{Float}
 use Rattle.program.specs.declared.bind.BoundProgram.{BoundProgram}
-use Rattle.session.specs.Lists.{pick}
 use Rattle.session.specs.Records.{of_voice}
 use Rattle.session.specs.Rules.{without_voice}
 use Rattle.session.specs.State.{view, opened, closed_voice, with_voices, placed, has_place}
@@ -82,11 +82,11 @@ port-is xs w r = ran-steps r ∙ sym (notes-world opening xs)
 module _ (b : Book) (h : Steady b) where
   live-players : (id : ℕ) → is_live b id ≡ true → live_players b id ≡ sounding (b.world.voices id).players
   unfolding live_players
-  live-players id e = ap (λ t. pick t (sounding (b.world.voices id).players) []) e
+  live-players id e = ap (λ t. cond t (sounding (b.world.voices id).players) []) e
 
   no-players : (id : ℕ) → is_live b id ≡ false → live_players b id ≡ []
   unfolding live_players
-  no-players id e = ap (λ t. pick t (sounding (b.world.voices id).players) []) e
+  no-players id e = ap (λ t. cond t (sounding (b.world.voices id).players) []) e
 
   mirrors : (id : ℕ) → b.starts id < 2 ^ 32 → Mirrors b b.world id
   mirrors id n = by-case (is_live b id) refl where
@@ -194,7 +194,7 @@ module _ (b : Book) (h : Steady b) (id : ℕ) where
 view-opened : (s : Session) → view (opened s).session ≡ view s
 unfolding opened
 view-opened s = by-case (has_place s.voices) where
-  by-case : (t : Bool) → view (pick {A = Opened} t (record { session = with_voices (placed s.voices) s; id = s.voices.next_voice }) (record { session = s; id = 0 })).session ≡ view s
+  by-case : (t : Bool) → view (cond {A = Opened} t (record { session = with_voices (placed s.voices) s; id = Some s.voices.next_voice }) (record { session = s; id = None })).session ≡ view s
   by-case true = refl
   by-case false = refl
 

@@ -1,9 +1,9 @@
 -- One claim over a whole run: the calls, the run of the port, the run of the definitions with its own bookkeeping, and the claim.
-use Rattle.std.specs.Prelude.{ℕ, ◌+◌, ◌-◌, ◌≤◌, ◌<◌, ◌^◌, min, ◌≡◌, Bool, true, false, not, length, leb, eqb, Float}
+use Rattle.std.specs.Prelude.{ℕ, ◌+◌, ◌-◌, ◌≤◌, ◌<◌, ◌^◌, min, ◌≡◌, Bool, true, false, not, length, leb, eqb, Float, cond, filter}
 use mathlib.Core.List.{List, [], ◌∷◌, foldl}
 use Rattle.exact.specs.Single.{f0}
 use Rattle.program.specs.declared.bind.BoundProgram.{BoundProgram}
-use Rattle.session.specs.Lists.{pick, keep, elem}
+use Rattle.session.specs.Lists.{elem}
 use Rattle.session.specs.Changes.{Along, unmarked}
 use Rattle.session.specs.Records.{of_voice, marked}
 use Rattle.session.specs.Rules.{slots_of, start_marks}
@@ -35,7 +35,7 @@ pub record World : Type 0 where
   pub voices : ℕ → SampleVoice
 
 abbrev pub put : {A : Type 0} → ℕ → A → (ℕ → A) → ℕ → A
-put k x f i = pick (eqb i k) x (f i)
+put k x f i = cond (eqb i k) x (f i)
 
 abbrev pub no_program : BoundProgram
 no_program = record { regions = 0; samples = 0; frames = 0 }
@@ -99,10 +99,10 @@ abbrev pub is_dropped : Started → Bool
 is_dropped x = leb 32 x.live
 
 abbrev pub drops_in : List Started → ℕ
-drops_in xs = length (keep is_dropped xs)
+drops_in xs = length (filter is_dropped xs)
 
 abbrev pub players_in : List Started → ℕ
-players_in xs = length (keep (λ x. not (is_dropped x)) xs)
+players_in xs = length (filter (λ x. not (is_dropped x)) xs)
 
 -- The bookkeeping: the definitions' own run; for each voice since its making how many players it started and how many starts were
 -- dropped; and whether its gate is held
@@ -167,7 +167,7 @@ is_live b id = elem id (ids_in b.world)
 
 -- the live players of a voice, in order: those of the definitions' run; a voice never made or closed has none
 unfoldable pub live_players : Book → ℕ → List Player
-live_players b id = pick (is_live b id) (sounding (b.world.voices id).players) []
+live_players b id = cond (is_live b id) (sounding (b.world.voices id).players) []
 
 abbrev pub one : Bool → ℕ
 one true = 1
@@ -204,7 +204,7 @@ pub record Holds (w : World) (b : Book) : Type 0 where
 -- ---- all along: what a call on one voice does to the records of another
 
 abbrev pub records_of : ℕ → List PlayerRecord → List PlayerRecord
-records_of id rs = keep (of_voice id) rs
+records_of id rs = filter (of_voice id) rs
 
 -- The starts of a call find the voice's records one after the other as the last left them, and each leaves them as 01's choke and
 -- polyphony rules mark them on the list as it then stands; nothing else changes them.

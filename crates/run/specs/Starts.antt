@@ -1,20 +1,16 @@
 -- The starts of a call, in turn, dropped ones included: each with the session's list and its voice's players as they then stand. These
 -- follow the definitions of events and blocks, and read what those read.
-use Rattle.std.specs.Prelude.{ℕ, zero, suc, ◌+◌, Bool, ◌&&◌, List, [], ◌∷◌, ◌++◌, get_or}
+use Rattle.std.specs.List.{list_any, range_with_len}
+use Rattle.session.specs.declared.Off.{Off}
+use Rattle.std.specs.Prelude.{ℕ, zero, suc, ◌+◌, Bool, ◌&&◌, List, [], ◌∷◌, ◌++◌, get_or, None, Option, Some, cond}
 use Rattle.exact.specs.Random.{drawn}
-use Rattle.program.specs.Bind.{indexes}
-use Rattle.session.specs.Lists.{pick, any}
 use Rattle.session.specs.Offs.{took_first, first_at, no_off}
 use Rattle.session.specs.State.{view, serial_up, held_down, with_seq}
-use Rattle.session.specs.declared.FirstOff.{FirstOff}
-use Rattle.session.specs.declared.FirstOff.TheVariants.{Nothing, Taken}
 use Rattle.session.specs.declared.PlayerRecord.{PlayerRecord}
 use Rattle.session.specs.declared.Session.{Session}
 use Rattle.session.specs.declared.Start.{Start}
 use Rattle.note.specs.Choice.{choosing_on, chosen_off}
 use Rattle.note.specs.Note.{note_state}
-use Rattle.note.specs.declared.MaybeNote.{MaybeNote}
-use Rattle.note.specs.declared.MaybeNote.TheVariants.{Absent, Present}
 use Rattle.note.specs.declared.NoteState.{NoteState}
 use Rattle.note.specs.declared.Strike.{Strike}
 use Rattle.players.specs.Gate.{offed_slot}
@@ -52,9 +48,9 @@ starts_of_release k m n at b =
     (chosen_off k.words m n.note n.vel (drawn n.seed s.event_serial 0) s)
     (record { session = s; voice = b.voice })
 
-abbrev pub starts_for : Kit → ℕ → ℕ → MaybeNote → Both → List Started
-starts_for k m at Absent b = []
-starts_for k m at (Present n) b = starts_of_release k m n at b
+abbrev pub starts_for : Kit → ℕ → ℕ → Option NoteState → Both → List Started
+starts_for k m at None b = []
+starts_for k m at (Some n) b = starts_of_release k m n at b
 
 unfoldable pub starts_of_dispatch : Kit → ℕ → ℕ → Both → List Started
 starts_of_dispatch k m at b = starts_for k m at b.voice.note b
@@ -62,24 +58,24 @@ starts_of_dispatch k m at b = starts_for k m at b.voice.note b
 -- an off mark that acts
 unfoldable pub starts_of_choke : Kit → ℕ → ℕ → Bool → Both → List Started
 starts_of_choke k m at fires b =
-    pick (fires && (b.voice.gate_held && unfired b.voice.note))
+    cond (fires && (b.voice.gate_held && unfired b.voice.note))
     (starts_of_dispatch k m at (record { session = b.session; voice = with_note (fired_note b.voice.note) b.voice }))
     []
 
 unfoldable pub starts_of_off : Kit → ℕ → ℕ → ℕ → Both → List Started
 starts_of_off k m slot at b =
     let o = offed_slot slot b.voice.players in
-    pick o.ignored [] (starts_of_choke k m at o.fires (reaped_both (record { session = b.session; voice = with_players o.players b.voice })))
+    cond o.ignored [] (starts_of_choke k m at o.fires (reaped_both (record { session = b.session; voice = with_players o.players b.voice })))
 
-abbrev pub starts_of_first : Kit → ℕ → FirstOff → Both → List Started
-starts_of_first k m Nothing b = []
-starts_of_first k m (Taken o) b = starts_of_off k m o.slot o.at b
+abbrev pub starts_of_first : Kit → ℕ → Option Off → Both → List Started
+starts_of_first k m None b = []
+starts_of_first k m (Some o) b = starts_of_off k m o.slot o.at b
 
 unfoldable pub starts_of_own : Kit → ℕ → ℕ → Both → List Started
 starts_of_own k m zero b = []
 starts_of_own k m (suc turns) b =
     let t = took_first b.voice.voice b.session in
-    pick (is_taken t.first) (starts_of_first k m t.first (record { session = t.session; voice = b.voice }) ++ starts_of_own k m turns (took_own k m b)) []
+    cond (is_taken t.first) (starts_of_first k m t.first (record { session = t.session; voice = b.voice }) ++ starts_of_own k m turns (took_own k m b)) []
 
 -- a gate's edge
 unfoldable pub starts_of_note : Kit → ℕ → NoteState → ℕ → Both → List Started
@@ -94,7 +90,7 @@ starts_of_note_on k m x b =
 
 unfoldable pub starts_of_note_off : Kit → ℕ → ℕ → Both → List Started
 starts_of_note_off k m at b =
-    pick b.voice.gate_held (starts_of_dispatch k m at (let_go_both (record { session = held_down b.session; voice = ungated b.voice }))) []
+    cond b.voice.gate_held (starts_of_dispatch k m at (let_go_both (record { session = held_down b.session; voice = ungated b.voice }))) []
 
 -- ---- a block
 
@@ -105,21 +101,21 @@ slot_on t i p = (get_or p.offs.offs (first_at (falls_on t i) (off_list p.offs)) 
 unfoldable pub starts_of_turns : Kit → BlockTime → ℕ → ℕ → Playing → List Started
 starts_of_turns k t i zero p = []
 starts_of_turns k t i (suc m) p =
-    pick (any (falls_on t i) (off_list p.offs))
+    cond (list_any (falls_on t i) (off_list p.offs))
     (starts_of_off k p.voice.program.regions (slot_on t i p) (t.offset + i) (both_of p) ++ starts_of_turns k t i m (off_turn k t i p))
     []
 
 unfoldable pub starts_of_gate : Kit → Strike → Bool → Playing → List Started
 starts_of_gate k x g p =
     let c : Both = record { session = p.session; voice = with_gate g p.voice } in
-    pick (turns p.voice.gate_prev g) (pick g (starts_of_note_on k p.voice.program.regions x c) (starts_of_note_off k p.voice.program.regions x.at c)) []
+    cond (turns p.voice.gate_prev g) (cond g (starts_of_note_on k p.voice.program.regions x c) (starts_of_note_off k p.voice.program.regions x.at c)) []
 
 unfoldable pub starts_of_events : Kit → BlockTime → ℕ → Strike → Bool → Playing → List Started
 starts_of_events k t i x g p = starts_of_turns k t i p.offs.count p ++ starts_of_gate k x g (off_turns k t i p.offs.count p)
 
 unfoldable pub starts_of_frame : Cues → Scene → ℕ → List Started
 starts_of_frame c sc i =
-    pick (event_on c sc i)
+    cond (event_on c sc i)
     (starts_of_events (kit_of c) c.time i (strike_at c i) (gate_at c.connected.gate c.gate i) (rendered_to (sounds_of c) i sc).playing)
     []
 
@@ -128,4 +124,4 @@ starts_of_frames c [] sc = []
 starts_of_frames c (i ∷ is) sc = starts_of_frame c sc i ++ starts_of_frames c is (frame_turn c sc i)
 
 unfoldable pub starts_of_block : Lent → Session → SampleVoice → List Started
-starts_of_block l s v = starts_of_frames (cues_of l) (indexes 0 l.time.frames) (block_start l s v)
+starts_of_block l s v = starts_of_frames (cues_of l) (range_with_len 0 l.time.frames) (block_start l s v)

@@ -19,7 +19,7 @@ use Rattle.interp.specs.Position.{Position}
 use Rattle.interp.specs.Read.{pair_at}
 use Rattle.interp.specs.declared.Interp.TheVariants.{Sinc}
 use Rattle.interp.specs.declared.sinc.SincSpan.{SincSpan}
-use Rattle.interp.specs.declared.sinc.Pair.{Pair}
+use Rattle.interp.specs.declared.channels.Pair.{Pair}
 use Rattle.segments.specs.Source.{Lent}
 use Rattle.segments.specs.Ahead.{Kept}
 use Rattle.player.proofs.Within.{zero_of}

@@ -1,4 +1,6 @@
 -- A position stays within 0 to 2 ^ 33: where a frame is read it is at most 2 ^ 32, and a step is at most 4,096. Assumes nothing.
+use Rattle.std.proofs.Common.{None, Option, Some}
+use Rattle.player.specs.declared.LoopRt.{LoopRt}
 use mathlib.Core.Path.{◌≡◌, refl, sym, ap, subst, ◌∙◌}
 use mathlib.Core.Bool.{Bool, true, false, not, true≢false, ◌&&◌, cond}
 use Prim.Native.Nat.{ℕ, suc, ◌+◌, ◌-◌, ◌*◌, ◌/◌, ◌^◌, ◌≤◌, ◌<◌, min}
@@ -28,8 +30,6 @@ use Rattle.player.specs.Bounds.{Step, LoopOk, Wrapped, bound}
 use Rattle.segments.specs.Source.{at_end, current_loop}
 use Rattle.segments.specs.Segment.{ends_now, fast_off, frame_with, frame_after}
 use Rattle.segments.specs.declared.source.Source.{Source}
-use Rattle.player.specs.declared.MaybeLoop.{MaybeLoop}
-use Rattle.player.specs.declared.MaybeLoop.TheVariants.{Absent, Present}
 
 -- ---- a sum
 -- of X / C and Y / C, each with its sign, where a minus sign is a zero's
@@ -225,19 +225,19 @@ before_last last p l h q = go (ltb (to_unsigned 64 p) 4294967296) (ltb→lt _ _)
     go true y n = part-below p h (y tt)
     go false y n = absurd (not-far last p (omega arith) h q (n tt))
 
-low : (lp : MaybeLoop) (last : ℕ) (p : Float) → last < 4294967295 → Wrapped lp p → Position p → at_end lp last p ≡ false → T (le p bound)
+low : (lp : Option LoopRt) (last : ℕ) (p : Float) → last < 4294967295 → Wrapped lp p → Position p → at_end lp last p ≡ false → T (le p bound)
 unfolding at_end
-low Absent last p l w h q = before_last last p l h q
-low (Present lp) last p l w h q = w
+low None last p l w h q = before_last last p l h q
+low (Some lp) last p l w h q = w
 
-pub current-ok : (s : EgState) (mode : LoopMode) (lp : MaybeLoop) → LoopOk lp → LoopOk (current_loop s mode lp)
+pub current-ok : (s : EgState) (mode : LoopMode) (lp : Option LoopRt) → LoopOk lp → LoopOk (current_loop s mode lp)
 unfolding current_loop
 current-ok s NoLoop lp ok = tt
 current-ok s OneShot lp ok = tt
 current-ok s Continuous lp ok = ok
 current-ok s Sustain lp ok = go (is_released s)
   where
-    go : (b : Bool) → LoopOk (cond b Absent lp)
+    go : (b : Bool) → LoopOk (cond b None lp)
     go true = tt
     go false = ok
 
@@ -247,7 +247,7 @@ fade-start a b size p ok h =
     subst (λ (x : Float). T (le (sub binary64 p x) furthest)) (sym ok.2) (less p (b + 1 - a) h (omega (arith, ok.1)))
 
 -- the position after a frame at p
-pub next-position : (s : Float) (last : ℕ) (lp : MaybeLoop) (p : Float) (e : Bool) → last < 4294967295 → Wrapped lp p → Position p → e ≡ at_end lp last p → e ≡ false → Step s
+pub next-position : (s : Float) (last : ℕ) (lp : Option LoopRt) (p : Float) (e : Bool) → last < 4294967295 → Wrapped lp p → Position p → e ≡ at_end lp last p → e ≡ false → Step s
     → Position (add binary64 p s)
 next-position s last lp p e l w h d n st = moved p s h.low (low lp last p l w h (sym d ∙ n)) st
 

@@ -1,4 +1,6 @@
 -- Plain frames: what one of them is, and what a run of them leaves. Assumes nothing.
+use Rattle.std.proofs.Common.{None, Option, Some}
+use Rattle.player.specs.declared.LoopRt.{LoopRt}
 use mathlib.Core.Path.{◌≡◌, refl, sym, ap, subst, ◌∙◌}
 use mathlib.Core.Bool.{Bool, true, false, not, true≢false, ◌&&◌, ◌||◌, beq, cond}
 use mathlib.Core.List.{List}
@@ -21,17 +23,15 @@ use Rattle.envelope.specs.declared.EgState.{EgState}
 use Rattle.envelope.specs.declared.EgState.TheVariants.{Delay, Attack, Hold, Decay, Sustain, Release, Fadeout, Done}
 use Rattle.envelope.specs.declared.Env.{Env}
 use Rattle.envelope.specs.Envelope.{is_done, env_next, sustain_step, step_in, answer}
-use Rattle.filter.specs.declared.FilterSlot.{FilterSlot}
+use Rattle.filter.specs.declared.FilterShape.{FilterShape}
 use Rattle.filter.specs.Filter.{chained}
 use Rattle.interp.specs.Position.{Position, first, double, floored, is_whole, looped}
 use Rattle.interp.specs.Points.{frame_at}
-use Rattle.interp.specs.declared.sinc.Pair.{Pair}
+use Rattle.interp.specs.declared.channels.Pair.{Pair}
 use Rattle.interp.proofs.Difference.{differ}
 use Rattle.interp.proofs.Floor.{whole-by-index}
 use Rattle.interp.proofs.Frames.{inside}
 use Rattle.interp.proofs.Looping.{double-value, le-values, stays, floor-below}
-use Rattle.player.specs.declared.MaybeLoop.{MaybeLoop}
-use Rattle.player.specs.declared.MaybeLoop.TheVariants.{Absent, Present}
 use Rattle.player.specs.declared.Hot.{Hot}
 use Rattle.player.specs.declared.Cold.{Cold}
 use Rattle.segments.specs.declared.segment.Frame.{Frame}
@@ -172,33 +172,33 @@ fade-part : (b : Bool) (x y m : ℕ) → m < cond b (min x y) y → (m < y) × (
 fade-part true x y m h = (omega arith, λ (e : true ≡ true). omega arith)
 fade-part false x y m h = (h, λ (e : false ≡ true). absurd (true≢false (sym e)))
 
-in_place : (lp : MaybeLoop) (last m : ℕ) → LoopOk lp → m ≤ 8589934592 → m < plain_end lp last → place_in lp (double m) ≡ double m
+in_place : (lp : Option LoopRt) (last m : ℕ) → LoopOk lp → m ≤ 8589934592 → m < plain_end lp last → place_in lp (double m) ≡ double m
 unfolding place_in looped plain_end
-in_place Absent last m ok far h = refl
-in_place (Present l) last m ok far h =
+in_place None last m ok far h = refl
+in_place (Some l) last m ok far h =
     let q = fade-part (ltb 0 l.xf) l.xf_out_start (l.end + 1) m h in
     sym (stays (double m) m (l.end + 1) (double (l.end + 1 - l.start)) 8589934592 (double-position m far) (sym (double-index m far)) q.0 (omega (arith, ok.1)))
 
-not-ended : (lp : MaybeLoop) (last m : ℕ) → last < 4294967295 → m < plain_end lp last → at_end lp last (double m) ≡ false
+not-ended : (lp : Option LoopRt) (last m : ℕ) → last < 4294967295 → m < plain_end lp last → at_end lp last (double m) ≡ false
 unfolding at_end plain_end
-not-ended Absent last m l h = double-before m last h (omega arith)
-not-ended (Present r) last m l h = refl
+not-ended None last m l h = double-before m last h (omega arith)
+not-ended (Some r) last m l h = refl
 
 no_third : (a b c : Bool) → (a ≡ true → c ≡ false) → a && (b && c) ≡ false
 no_third false b c h = refl
 no_third true false c h = refl
 no_third true true c h = h refl
 
-unfaded : (c : Cold) (s : Lent) (lp : MaybeLoop) (last m : ℕ) (stored : Bool) (v : Pair) → FadeSmall lp → m ≤ 8589934592 → m < plain_end lp last → crossfaded c s lp stored (double m) v ≡ v
+unfaded : (c : Cold) (s : Lent) (lp : Option LoopRt) (last m : ℕ) (stored : Bool) (v : Pair) → FadeSmall lp → m ≤ 8589934592 → m < plain_end lp last → crossfaded c s lp stored (double m) v ≡ v
 unfolding crossfaded plain_end in_fade
-unfaded c s Absent last m stored v small far h = refl
-unfaded c s (Present l) last m stored v small far h =
+unfaded c s None last m stored v small far h = refl
+unfaded c s (Some l) last m stored v small far h =
     let q = fade-part (ltb 0 l.xf) l.xf_out_start (l.end + 1) m h in
     rw (no_third (ltb 0 l.xf) (le (double l.start) (floored (double m))) (le (double l.xf_out_start) (floored (double m)))
     (λ (e : ltb 0 l.xf ≡ true). floor-below l.xf_out_start (double m) (double-position m far) (double-fits m) (omega arith) (double-before m l.xf_out_start (q.1 e) (omega arith))))
 
 -- ---- one frame
-pub record Plain (c : Cold) (h : Hot) (lp : MaybeLoop) (m : ℕ) : Type 0 where
+pub record Plain (c : Cold) (h : Hot) (lp : Option LoopRt) (m : ℕ) : Type 0 where
   pub plain : is_plain c h ≡ true
   pub place : h.pos ≡ double m
   pub loop : lp ≡ current_loop h.env.state c.loop_mode c.lp
@@ -259,7 +259,7 @@ stored-pair : (c : Cold) (s : Lent) (m : ℕ) → m ≤ 8589934592 → m < lengt
 unfolding frame_of
 stored-pair c s m far a b = rw (stored-channel s.a m far a, second-channel c.stereo s.b m far b)
 
-read_plain : (c : Cold) (s : Lent) (h : Hot) (lp : MaybeLoop) (m : ℕ) → Plain c h lp m → Tests c h → m < length s.a → (c.stereo ≡ true → m < length s.b)
+read_plain : (c : Cold) (s : Lent) (h : Hot) (lp : Option LoopRt) (m : ℕ) → Plain c h lp m → Tests c h → m < length s.a → (c.stereo ≡ true → m < length s.b)
     → read_frame c s h ≡ record { hot = at_pos (double (m + 1)) h; l = get_or s.a m f0; r = cond c.stereo (get_or s.b m f0) f0 }
 read_plain c s h lp m p t a b =
     let v : Pair = record { l = get_or s.a m f0; r = cond c.stereo (get_or s.b m f0) f0 } in
@@ -271,7 +271,7 @@ read_plain c s h lp m p t a b =
     (sym (unfaded c s lp c.last m true v p.small p.far p.before)))
     ∙ ap (λ (x : Float). record { hot = at_pos x h; l = v.l; r = v.r }) (double-next m c.step p.far t.step)
 
-one-frame : (c : Cold) (s : Lent) (h : Hot) (lp : MaybeLoop) (m : ℕ) → Plain c h lp m → m < length s.a → (c.stereo ≡ true → m < length s.b) → frame_next c s h ≡ plain_frame c s h m
+one-frame : (c : Cold) (s : Lent) (h : Hot) (lp : Option LoopRt) (m : ℕ) → Plain c h lp m → m < length s.a → (c.stereo ≡ true → m < length s.b) → frame_next c s h ≡ plain_frame c s h m
 unfolding frame_next frame_after ends_now
 one-frame c s h lp m p a b =
     let t = tests c h p.plain in
@@ -279,17 +279,17 @@ one-frame c s h lp m p a b =
     rw (e.0, e.1, t.begun, read_plain c s h lp m p t a b, t.going)
 
 -- ---- a run of frames
-pub end-small : (lp : MaybeLoop) (last : ℕ) → LoopOk lp → last < 4294967295 → plain_end lp last ≤ 4294967295
+pub end-small : (lp : Option LoopRt) (last : ℕ) → LoopOk lp → last < 4294967295 → plain_end lp last ≤ 4294967295
 unfolding plain_end
-end-small Absent last ok l = omega arith
-end-small (Present r) last ok l = lesser (ltb 0 r.xf) r.xf_out_start (r.end + 1) (omega (arith, ok.1))
+end-small None last ok l = omega arith
+end-small (Some r) last ok l = lesser (ltb 0 r.xf) r.xf_out_start (r.end + 1) (omega (arith, ok.1))
   where
     lesser : (b : Bool) (x y : ℕ) → y ≤ 4294967295 → cond b (min x y) y ≤ 4294967295
     lesser true x y h = omega arith
     lesser false x y h = h
 
 -- an unfiltered frame more
-unfiltered-one : (c : Cold) (slots : List FilterSlot) (s : Lent) (j : ℕ) (x : Run) (f : Frame) → c.n_filters ≡ 0 → x.done ≡ false → frame_next c s x.hot ≡ f → f.done ≡ false
+unfiltered-one : (c : Cold) (slots : List FilterShape) (s : Lent) (j : ℕ) (x : Run) (f : Frame) → c.n_filters ≡ 0 → x.done ≡ false → frame_next c s x.hot ≡ f → f.done ≡ false
     → run_one c slots s j x
     ≡ record {
       hot = f.hot;
@@ -311,7 +311,7 @@ unfolding hot_at
 hot-at h m zero e = ap (λ (x : Float). at_pos x h) (e ∙ ap double (sym (add-zero m)))
 hot-at h m (suc k) e = refl
 
-module _ (c : Cold) (slots : List FilterSlot) (s : Lent) (h : Hot) (lp : MaybeLoop) (m n : ℕ) (plain : is_plain c h ≡ true) (place : h.pos ≡ double m) (loop : lp ≡ current_loop h.env.state c.loop_mode c.lp)
+module _ (c : Cold) (slots : List FilterShape) (s : Lent) (h : Hot) (lp : Option LoopRt) (m n : ℕ) (plain : is_plain c h ≡ true) (place : h.pos ≡ double m) (loop : lp ≡ current_loop h.env.state c.loop_mode c.lp)
     (ok : LoopOk lp) (small : FadeSmall lp) (last : c.last < 4294967295) (end : m + n ≤ plain_end lp c.last) (left : m + n ≤ length s.a) (right : c.stereo ≡ true → m + n ≤ length s.b) where
   far : m + n ≤ 4294967295
   far = let e = end-small lp c.last ok last in omega arith
@@ -355,7 +355,7 @@ module _ (c : Cold) (slots : List FilterSlot) (s : Lent) (h : Hot) (lp : MaybeLo
         ∙ sym (run-plain n (omega arith))
 
 -- ---- runs one after the other
-joined-runs : (c : Cold) (slots : List FilterSlot) (s : Lent) (j k : ℕ) (x : Run) → run_from c slots s j k (run_for c slots s j x) ≡ run_for c slots s (j + k) x
+joined-runs : (c : Cold) (slots : List FilterShape) (s : Lent) (j k : ℕ) (x : Run) → run_from c slots s j k (run_for c slots s j x) ≡ run_for c slots s (j + k) x
 unfolding run_from run_for
 joined-runs c slots s j zero x = rw add-zero
 joined-runs c slots s j (suc k) x = ap (run_one c slots s (j + k)) (joined-runs c slots s j k x) ∙ ap (λ (i : ℕ). run_for c slots s i x) (sym (add-suc j k))
@@ -381,12 +381,12 @@ unfolding added_run
 one_more g x y stereo a b p j i out₀ out out' l r v e s d f h = rw (s, d, f, h, e, add-one)
 
 -- ---- no frame
-pub no_run : (c : Cold) (slots : List FilterSlot) (s : Lent) (j : ℕ) (x : Run) → x ≡ run_from c slots s j (j - j) x
+pub no_run : (c : Cold) (slots : List FilterShape) (s : Lent) (j : ℕ) (x : Run) → x ≡ run_from c slots s j (j - j) x
 unfolding run_from
 no_run c slots s j x = let z : 0 ≡ j - j = omega arith in ap (λ (n : ℕ). run_from c slots s j n x) z
 
 -- ---- a run that goes on with plain frames, from frame j to frame n
-pub carried : (c : Cold) (slots : List FilterSlot) (s : Lent) (j n : ℕ) (x₀ x y : Run) → j ≤ n → x ≡ run_for c slots s j x₀ → y ≡ run_from c slots s j (n - j) x → y ≡ run_for c slots s n x₀
+pub carried : (c : Cold) (slots : List FilterShape) (s : Lent) (j n : ℕ) (x₀ x y : Run) → j ≤ n → x ≡ run_for c slots s j x₀ → y ≡ run_from c slots s j (n - j) x → y ≡ run_for c slots s n x₀
 carried c slots s j n x₀ x y h e d =
     let z : j + (n - j) ≡ n = omega arith in
     d ∙ ap (run_from c slots s j (n - j)) e ∙ joined-runs c slots s j (n - j) x₀ ∙ ap (λ (i : ℕ). run_for c slots s i x₀) z
@@ -427,7 +427,7 @@ silent-frame c s h e =
     let r = resting h.env t.3 in
     rw (r.0, r.1, t.2, t.0, no_end h)
 
-module _ (c : Cold) (slots : List FilterSlot) (s : Lent) (h : Hot) (j : ℕ) (states outL outR : List Float) (silent : is_silent c h ≡ true) where
+module _ (c : Cold) (slots : List FilterShape) (s : Lent) (h : Hot) (j : ℕ) (states outL outR : List Float) (silent : is_silent c h ≡ true) where
   abbrev nothing_l : Float
   nothing_l = share (c.gain ⊗ h.env.value) c.ll c.rl f0 f0
 

@@ -7,7 +7,7 @@ use native.Mathlib.Nat.{add-zero, add-suc}
 use native.Mathlib.Numerals.{add-one}
 use native.Mathlib.Omega.{arith}
 use lib.Ieee.{Float}
-use Rattle.filter.specs.declared.FilterSlot.{FilterSlot}
+use Rattle.filter.specs.declared.FilterShape.{FilterShape}
 use Rattle.filter.specs.Filter.{Paired, chained}
 use Rattle.player.specs.declared.Hot.{Hot}
 use Rattle.player.specs.declared.Cold.{Cold}
@@ -17,11 +17,11 @@ use Rattle.segments.specs.Source.{Lent}
 use Rattle.segments.specs.Segment.{Run, After, Rendered, frame_next, run_one, run_for, mixed, after_run, went_off, with_hot, played_of}
 
 -- a frame leaves what is done as it is
-still : (c : Cold) (fs : List FilterSlot) (s : Lent) (j : ℕ) (x : Run) → x.done ≡ true → run_one c fs s j x ≡ x
+still : (c : Cold) (fs : List FilterShape) (s : Lent) (j : ℕ) (x : Run) → x.done ≡ true → run_one c fs s j x ≡ x
 unfolding run_one
 still c fs s j x p = rw p
 
-module _ (c : Cold) (fs : List FilterSlot) (s : Lent) (x : Run) where
+module _ (c : Cold) (fs : List FilterShape) (s : Lent) (x : Run) where
   stays : (k d : ℕ) → (run_for c fs s k x).done ≡ true → run_for c fs s (k + d) x ≡ run_for c fs s k x
   unfolding run_for
   stays k zero p = rw add-zero

@@ -7,7 +7,7 @@ use Rattle.interp.specs.Read.{pair_at}
 use Rattle.lanes.specs.Four.{Inside, Parts, Rows}
 use Rattle.interp.specs.declared.Interp.TheVariants.{Sinc}
 use Rattle.interp.specs.declared.sinc.SincSpan.{SincSpan}
-use Rattle.interp.specs.declared.sinc.Pair.{Pair}
+use Rattle.interp.specs.declared.channels.Pair.{Pair}
 use Rattle.lanes.specs.declared.four.Four.{Four}
 use Rattle.player.specs.declared.Cold.{Cold}
 use Rattle.segments.specs.declared.ahead.Next.{Next}

@@ -1,5 +1,6 @@
 -- Frames that are read as they are stored, under an envelope that rests and through no filter. Definitions only.
-use Rattle.std.specs.Prelude.{Bool, true, false, not, ◌&&◌, cond, List, ℕ, zero, suc, ◌+◌, ◌<◌, min, ltb, eqb, pos, Float, get_or}
+use Rattle.player.specs.declared.LoopRt.{LoopRt}
+use Rattle.std.specs.Prelude.{Bool, true, false, not, ◌&&◌, cond, List, ℕ, zero, suc, ◌+◌, ◌<◌, min, ltb, eqb, pos, Float, get_or, None, Option, Some}
 use Rattle.std.specs.Int.Signed.{lt_z}
 use Rattle.std.specs.Float.{binary64}
 use Rattle.std.specs.Float.Ieee.{lt, eq, of_bits}
@@ -7,9 +8,7 @@ use Rattle.exact.specs.Single.{f0}
 use Rattle.envelope.specs.declared.EgState.{EgState}
 use Rattle.envelope.specs.declared.EgState.TheVariants.{Delay, Attack, Hold, Decay, Sustain, Release, Fadeout, Done}
 use Rattle.envelope.specs.declared.Env.{Env}
-use Rattle.filter.specs.declared.FilterSlot.{FilterSlot}
-use Rattle.player.specs.declared.MaybeLoop.{MaybeLoop}
-use Rattle.player.specs.declared.MaybeLoop.TheVariants.{Absent, Present}
+use Rattle.filter.specs.declared.FilterShape.{FilterShape}
 use Rattle.player.specs.declared.Hot.{Hot}
 use Rattle.player.specs.declared.Cold.{Cold}
 use Rattle.segments.specs.Source.{Lent}
@@ -40,14 +39,14 @@ unfoldable pub is_silent : Cold → Hot → Bool
 is_silent c h = c.silent && (eqb c.n_filters 0 && (not (lt_z (pos 0) h.data_delay) && is_resting h.env))
 
 -- the frame at which plain frames end: the sample's last, or the first past the loop or of its fade
-unfoldable pub plain_end : MaybeLoop → ℕ → ℕ
-plain_end Absent last = last
-plain_end (Present l) last = cond (ltb 0 l.xf) (min l.xf_out_start (l.end + 1)) (l.end + 1)
+unfoldable pub plain_end : Option LoopRt → ℕ → ℕ
+plain_end None last = last
+plain_end (Some l) last = cond (ltb 0 l.xf) (min l.xf_out_start (l.end + 1)) (l.end + 1)
 
 -- a fade begins at a frame of 32 bits
-abbrev pub FadeSmall : MaybeLoop → Type 0
-FadeSmall Absent = Unit {0}
-FadeSmall (Present l) = l.xf_out_start < 4294967296
+abbrev pub FadeSmall : Option LoopRt → Type 0
+FadeSmall None = Unit {0}
+FadeSmall (Some l) = l.xf_out_start < 4294967296
 
 -- what an output gets of the stored frame i behind frame p
 abbrev pub plain_share : Float → Float → Float → Bool → List Float → List Float → ℕ → ℕ → Float
@@ -59,6 +58,6 @@ added_run f j zero out = out
 added_run f j (suc k) out = added (added_run f j k out) (j + k) (f k)
 
 -- k frames more from frame j on
-unfoldable pub run_from : Cold → List FilterSlot → Lent → ℕ → ℕ → Run → Run
+unfoldable pub run_from : Cold → List FilterShape → Lent → ℕ → ℕ → Run → Run
 run_from c slots s j zero x = x
 run_from c slots s j (suc k) x = run_one c slots s (j + k) (run_from c slots s j k x)

@@ -5,7 +5,7 @@ use Rattle.std.specs.Float.{nan, binary32}
 use Rattle.std.specs.Float.Ieee.{of_bits}
 use Rattle.envelope.specs.declared.Env.{Env}
 use Rattle.envelope.specs.Envelope.{is_done, env_next, released, release_timed}
-use Rattle.filter.specs.declared.FilterSlot.{FilterSlot}
+use Rattle.filter.specs.declared.FilterShape.{FilterShape}
 use Rattle.filter.specs.Filter.{Paired, chained}
 use Rattle.exact.specs.Single.{◌⊕◌, ◌⊗◌, f0}
 use Rattle.player.specs.declared.Hot.{Hot}
@@ -83,17 +83,17 @@ mixed c j s f v =
       done = false;
     }
 
-abbrev pub played : Cold → List FilterSlot → ℕ → Run → Frame → Run
+abbrev pub played : Cold → List FilterShape → ℕ → Run → Frame → Run
 played c slots j s f =
     cond f.done (record { hot = f.hot; states = s.states; left = s.left; right = s.right; done = true })
     (mixed c j s f (chained slots c.stereo c.n_filters (record { l = f.l; r = f.r; states = s.states })))
 
 -- one frame more, unless the envelope is done
-unfoldable pub run_one : Cold → List FilterSlot → Lent → ℕ → Run → Run
+unfoldable pub run_one : Cold → List FilterShape → Lent → ℕ → Run → Run
 run_one c slots s j x = cond x.done x (played c slots j x (frame_next c s x.hot))
 
 -- the first k frames
-unfoldable pub run_for : Cold → List FilterSlot → Lent → ℕ → Run → Run
+unfoldable pub run_for : Cold → List FilterShape → Lent → ℕ → Run → Run
 run_for c slots s zero x = x
 run_for c slots s (suc k) x = run_one c slots s k (run_for c slots s k x)
 

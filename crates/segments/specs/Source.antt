@@ -1,5 +1,5 @@
 -- One frame of a player's sample, before its filters. Definitions only.
-use Rattle.std.specs.Prelude.{Bool, true, false, ◌&&◌, cond, List, ℕ, ◌+◌, ltb, Float}
+use Rattle.std.specs.Prelude.{Bool, true, false, ◌&&◌, cond, List, ℕ, ◌+◌, ltb, Float, None, Option, Some}
 use Rattle.std.specs.Float.{binary64, binary32}
 use Rattle.std.specs.Float.Ieee.{add, sub, div, le, eq, of_bits, to_unsigned}
 use Rattle.exact.specs.Narrow.{narrowed}
@@ -13,12 +13,10 @@ use Rattle.interp.specs.Points.{pad, frame_at}
 use Rattle.interp.specs.Read.{pair_at}
 use Rattle.interp.specs.declared.Interp.{Interp}
 use Rattle.interp.specs.declared.sinc.SincSpan.{SincSpan}
-use Rattle.interp.specs.declared.sinc.Pair.{Pair}
+use Rattle.interp.specs.declared.channels.Pair.{Pair}
 use Rattle.program.specs.declared.region.LoopMode.{LoopMode}
 use Rattle.program.specs.declared.region.LoopMode.TheVariants.{NoLoop, OneShot, Continuous, Sustain}
 use Rattle.player.specs.declared.LoopRt.{LoopRt}
-use Rattle.player.specs.declared.MaybeLoop.{MaybeLoop}
-use Rattle.player.specs.declared.MaybeLoop.TheVariants.{Absent, Present}
 use Rattle.player.specs.declared.Hot.{Hot}
 use Rattle.player.specs.declared.Cold.{Cold}
 use Rattle.segments.specs.declared.source.Source.{Source}
@@ -30,21 +28,21 @@ pub record Lent : Type 0 where
   pub table : List Float
 
 -- The loop that a player goes round in. One that sustains ends with the release.
-unfoldable pub current_loop : EgState → LoopMode → MaybeLoop → MaybeLoop
-current_loop s NoLoop lp = Absent
-current_loop s OneShot lp = Absent
+unfoldable pub current_loop : EgState → LoopMode → Option LoopRt → Option LoopRt
+current_loop s NoLoop lp = None
+current_loop s OneShot lp = None
 current_loop s Continuous lp = lp
-current_loop s Sustain lp = cond (is_released s) Absent lp
+current_loop s Sustain lp = cond (is_released s) None lp
 
 -- a position in the loop: while it is end + 1 or more, the loop's size comes off
-unfoldable pub place_in : MaybeLoop → Float → Float
-place_in Absent pos = pos
-place_in (Present l) pos = looped l.start l.end pos
+unfoldable pub place_in : Option LoopRt → Float → Float
+place_in None pos = pos
+place_in (Some l) pos = looped l.start l.end pos
 
 -- a player without a loop ends where its position reaches `last`
-unfoldable pub at_end : MaybeLoop → ℕ → Float → Bool
-at_end Absent last p = le (double last) p
-at_end (Present l) last p = false
+unfoldable pub at_end : Option LoopRt → ℕ → Float → Bool
+at_end None last p = le (double last) p
+at_end (Some l) last p = false
 
 -- a step of exactly 1.0 at a whole position
 unfoldable pub is_unity : Float → Float → Bool
@@ -96,9 +94,9 @@ faded c s stored t q v =
     cond (le first q) (joined (s_curve t) (frame_in c s stored q) out) out
 
 -- the frame v, read at p, with the loop's fade
-unfoldable pub crossfaded : Cold → Lent → MaybeLoop → Bool → Float → Pair → Pair
-crossfaded c s Absent stored p v = v
-crossfaded c s (Present l) stored p v = cond (in_fade l p) (faded c s stored (fade_of l p) (sub binary64 p l.size) v) v
+unfoldable pub crossfaded : Cold → Lent → Option LoopRt → Bool → Float → Pair → Pair
+crossfaded c s None stored p v = v
+crossfaded c s (Some l) stored p v = cond (in_fade l p) (faded c s stored (fade_of l p) (sub binary64 p l.size) v) v
 
 abbrev pub silence : Hot → Source
 silence h = record { hot = h; l = f0; r = f0 }
@@ -114,13 +112,13 @@ abbrev pub stepped : Cold → Hot → Float → Pair → Source
 stepped c h p v = record { hot = at_pos (add binary64 p c.step) h; l = v.l; r = v.r }
 
 -- a frame of the loop lp, read at p
-abbrev pub heard_at : Cold → Lent → Hot → MaybeLoop → Float → Source
+abbrev pub heard_at : Cold → Lent → Hot → Option LoopRt → Float → Source
 heard_at c s h lp p =
     let stored = is_unity c.step p in
     cond (at_end lp c.last p) (silence (with_data_ended p h))
     (stepped c h p (crossfaded c s lp stored p (frame_in c s stored p)))
 
-unfoldable pub heard_in : Cold → Lent → Hot → MaybeLoop → Source
+unfoldable pub heard_in : Cold → Lent → Hot → Option LoopRt → Source
 heard_in c s h lp = heard_at c s h lp (place_in lp h.pos)
 
 -- One frame of the sample. Where there is none, and past its end, it is silence and the position stays.

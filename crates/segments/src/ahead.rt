@@ -13,9 +13,11 @@ ghost use Rattle.segments.specs.Ahead.{Suited, Inner, Positions, AllInner, Kept,
 use super::source::{looping, place};
 use exact::order::abs_f32;
 use interp::Interp;
+use interp::channels::Both;
 use interp::position::{fraction, frame_index};
-use lanes::four::{Four, Starts, sinc_four, sinc_four_pair};
-use player::{Cold, Hot, MaybeLoop};
+use lanes::four::{Four, Starts, sinc_four};
+use lanes::places::Places;
+use player::{Cold, Hot, LoopRt};
 
 // Four positions, each a step after the one before.
 #[derive(Clone, Copy)]
@@ -92,7 +94,7 @@ fn start_at(p: f64, half: usize) -> usize
 }
 
 // The position after p. One past 2^32, where no sample has a frame, stays, so that the sum is a position.
-fn after(lp: MaybeLoop, p: f64, step: f64) -> f64
+fn after(lp: Option<LoopRt>, p: f64, step: f64) -> f64
     requires { LoopOk lp × Position p × Step step }
     ensures { Position result }
 {
@@ -103,7 +105,7 @@ fn after(lp: MaybeLoop, p: f64, step: f64) -> f64
 }
 
 // The four positions from p on.
-fn nexts(lp: MaybeLoop, p: f64, step: f64) -> Next
+fn nexts(lp: Option<LoopRt>, p: f64, step: f64) -> Next
     requires { LoopOk lp × Position p × Step step }
     ensures { Positions result }
 {
@@ -187,16 +189,15 @@ fn four(
     a: &[f32],
     b: &[f32],
     table: &[f32],
-    entries: &mut [u32; 320],
-    parts: &mut [f32; 320],
+    places: &mut Places,
     qs: &mut [f64; 64],
     ls: &mut [f32; 64],
     rs: &mut [f32; 64],
     at: usize,
     last: Four,
 ) -> Four
-    requires { Positions x × AllInner x cold.span.half (length a.now) × Suited cold a.now b.now × (at + 4 ≤ 64) × (length table.now ≡ 8194) × (length entries.old ≡ 320) × (length parts.old ≡ 320) × Kept cold.span cold.stereo (record { a = a.now; b = b.now; table = table.now }) qs.old ls.old rs.old × Placed cold.span last entries.old parts.old }
-    ensures { (length entries.new ≡ 320) × (length parts.new ≡ 320) × Kept cold.span cold.stereo (record { a = a.entry.now; b = b.now; table = table.now }) qs.new ls.new rs.new × Placed cold.span result entries.new parts.new }
+    requires { Positions x × AllInner x cold.span.half (length a.now) × Suited cold a.now b.now × (at + 4 ≤ 64) × (length table.now ≡ 8194) × Kept cold.span cold.stereo (record { a = a.now; b = b.now; table = table.now }) qs.old ls.old rs.old × Placed cold.span last places.old.entries places.old.parts }
+    ensures { Kept cold.span cold.stereo (record { a = a.entry.now; b = b.now; table = table.now }) qs.new ls.new rs.new × Placed cold.span result places.new.entries places.new.parts }
 {
     let span = cold.span;
     let h = span.half as usize;
@@ -214,12 +215,12 @@ fn four(
     };
     let placed = same(f, last);
     if cold.stereo {
-        let v = sinc_four_pair(table, a, b, span, n, f, placed, entries, parts);
+        let v = sinc_four(table, Both { l: a, r: b }, span, n, f, placed, places);
         let l = v.l;
         let r = v.r;
         keep_four(qs, ls, rs, at, x, l, r);
     } else {
-        let l = sinc_four(table, a, span, n, f, placed, entries, parts);
+        let l = sinc_four(table, a, span, n, f, placed, places);
         let r = Four {
             x0: 0.0,
             x1: 0.0,
@@ -253,8 +254,7 @@ pub fn ahead(
     if hot.data_delay > 0 {
         return;
     }
-    let mut entries = [0u32; 320];
-    let mut parts = [0.0f32; 320];
+    let mut places = Places::new();
     let env = hot.env;
     let mode = cold.loop_mode;
     let own = cold.lp;
@@ -269,20 +269,7 @@ pub fn ahead(
         }
         let x = nexts(lp, p, cold.step);
         if inside(x, h, a.len()) {
-            last = four(
-                x,
-                cold,
-                a,
-                b,
-                table,
-                &mut entries,
-                &mut parts,
-                qs,
-                ls,
-                rs,
-                at,
-                last,
-            );
+            last = four(x, cold, a, b, table, &mut places, qs, ls, rs, at, last);
         } else {
             return;
         }

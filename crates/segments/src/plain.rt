@@ -2,7 +2,7 @@
 // release, the usual player. Many of them are added to both outputs at once, and the position moves once for all.
 ghost use Rattle.std.specs.Prelude.{◌≡◌, true, false, cond, List, ℕ, ◌≤◌, ◌<◌, ◌+◌, ◌-◌, Float, length, get_or};
 ghost use Rattle.exact.specs.Single.{f0};
-ghost use Rattle.filter.specs.declared.FilterSlot.{FilterSlot};
+ghost use Rattle.filter.specs.declared.FilterShape.{FilterShape};
 ghost use Rattle.interp.specs.Position.{Position, double};
 ghost use Rattle.player.specs.Bounds.{ColdOk};
 ghost use Rattle.segments.specs.Source.{Lent, at_pos};
@@ -14,7 +14,7 @@ use super::source::looping;
 use envelope::{EgState, Env};
 use filter::Pair;
 use interp::position::frame_index;
-use player::{Cold, Hot, MaybeLoop};
+use player::{Cold, Hot, LoopRt};
 
 // After a run of frames: the position, which is all that they change of the player, and the frame after them.
 #[derive(Drop)]
@@ -81,12 +81,12 @@ fn whole_frame(pos: f64) -> usize
 }
 
 // Where plain frames end: where the sample does, or where the loop turns back or its fade begins.
-fn plain_end(lp: MaybeLoop, last: u32) -> usize
+fn plain_end(lp: Option<LoopRt>, last: u32) -> usize
     ensures { (result ≡ plain_end lp last) × FadeSmall lp }
 {
     match lp {
-        MaybeLoop::Absent => last as usize,
-        MaybeLoop::Present(l) => {
+        None => last as usize,
+        Some(l) => {
             let end = (l.end as usize) + 1;
             if l.xf > 0 {
                 let fade = l.xf_out_start as usize;
@@ -188,7 +188,7 @@ fn is_silent(h: Hot, c: Cold) -> bool
 // All frames from j on, where they are silence.
 fn play_silent(h: Hot, c: Cold, out_l: &mut [f32], out_r: &mut [f32], j: usize) -> Rested
     requires { Position h.pos × (j ≤ length out_l.old) × (length out_r.old ≡ length out_l.old) }
-    ensures { (j ≤ result.next) × (result.next ≤ length out_l.old) × Position result.pos × ((slots : List FilterSlot) (s : Lent) (states : List Float) → ◌≡◌ {A = Run} (record { hot = at_pos result.pos h; states = states; left = out_l.new; right = out_r.new; done = false }) (run_from c slots s j (result.next - j) (record { hot = h; states = states; left = out_l.old; right = out_r.old; done = false }))) }
+    ensures { (j ≤ result.next) × (result.next ≤ length out_l.old) × Position result.pos × ((slots : List FilterShape) (s : Lent) (states : List Float) → ◌≡◌ {A = Run} (record { hot = at_pos result.pos h; states = states; left = out_l.new; right = out_r.new; done = false }) (run_from c slots s j (result.next - j) (record { hot = h; states = states; left = out_l.old; right = out_r.old; done = false }))) }
 {
     let n = out_l.len();
     if !is_silent(h, c) {
@@ -219,7 +219,7 @@ fn play_stored(
     j: usize,
 ) -> Rested
     requires { ColdOk c × Position h.pos × (j ≤ length out_l.old) × (length out_r.old ≡ length out_l.old) }
-    ensures { (j ≤ result.next) × (result.next ≤ length out_l.old) × Position result.pos × ((slots : List FilterSlot) (states table : List Float) → ◌≡◌ {A = Run} (record { hot = at_pos result.pos h; states = states; left = out_l.new; right = out_r.new; done = false }) (run_from c slots (record { a = a.entry.now; b = b.now; table = table }) j (result.next - j) (record { hot = h; states = states; left = out_l.old; right = out_r.old; done = false }))) }
+    ensures { (j ≤ result.next) × (result.next ≤ length out_l.old) × Position result.pos × ((slots : List FilterShape) (states table : List Float) → ◌≡◌ {A = Run} (record { hot = at_pos result.pos h; states = states; left = out_l.new; right = out_r.new; done = false }) (run_from c slots (record { a = a.entry.now; b = b.now; table = table }) j (result.next - j) (record { hot = h; states = states; left = out_l.old; right = out_r.old; done = false }))) }
 {
     let n = out_l.len();
     if !is_plain(h, c) {
@@ -268,7 +268,7 @@ pub fn play_plain(
     j: usize,
 ) -> Rested
     requires { ColdOk c × Position h.pos × (j ≤ length out_l.old) × (length out_r.old ≡ length out_l.old) }
-    ensures { (j ≤ result.next) × (result.next ≤ length out_l.old) × Position result.pos × ((slots : List FilterSlot) (states table : List Float) → ◌≡◌ {A = Run} (record { hot = at_pos result.pos h; states = states; left = out_l.new; right = out_r.new; done = false }) (run_from c slots (record { a = a.entry.now; b = b.now; table = table }) j (result.next - j) (record { hot = h; states = states; left = out_l.old; right = out_r.old; done = false }))) }
+    ensures { (j ≤ result.next) × (result.next ≤ length out_l.old) × Position result.pos × ((slots : List FilterShape) (states table : List Float) → ◌≡◌ {A = Run} (record { hot = at_pos result.pos h; states = states; left = out_l.new; right = out_r.new; done = false }) (run_from c slots (record { a = a.entry.now; b = b.now; table = table }) j (result.next - j) (record { hot = h; states = states; left = out_l.old; right = out_r.old; done = false }))) }
 {
     if c.silent {
         return play_silent(h, c, out_l, out_r, j);

@@ -9,7 +9,7 @@ ghost use Rattle.segments.specs.Segment.{ends_now, fast_off, frame_after, frame_
 use super::ahead::{ahead, suits};
 use super::plain::play_plain;
 use super::source::{Source, read};
-use filter::{FilterSlot, Pair, tick_pair};
+use filter::{FilterShape, Pair, chain};
 use player::{Cold, Hot, Player};
 
 // A frame before the filters: the envelope's value, whether the envelope is done, and both channels.
@@ -150,7 +150,7 @@ fn chunk_end(j: usize, n: usize) -> usize
 fn frames(
     hot: Hot,
     cold: Cold,
-    slots: [FilterSlot; 6],
+    slots: [FilterShape; 6],
     states: &mut [f32; 72],
     a: &[f32],
     b: &[f32],
@@ -166,6 +166,7 @@ fn frames(
     let mut ls = [0.0f32; 64];
     let mut rs = [0.0f32; 64];
     let suited = suits(cold, a, b);
+    let filters = &slots[..cold.n_filters as usize];
     let mut h = hot;
     let mut j = 0usize;
     while j < n {
@@ -188,13 +189,8 @@ fn frames(
             if f.done {
                 return h;
             }
-            let mut v = Pair { l: f.l, r: f.r };
-            let count = cold.n_filters as usize;
-            for k in 0..count {
-                let slot = slots[k];
-                let shape = slot.shape;
-                v = tick_pair(states, shape, k, cold.stereo, v);
-            }
+            let read = Pair { l: f.l, r: f.r };
+            let v = chain(states, filters, cold.stereo, read);
             let gain = cold.gain * f.value;
             add_at(out_l, j, share_of(gain, cold.ll, cold.rl, v));
             add_at(out_r, j, share_of(gain, cold.lr, cold.rr, v));

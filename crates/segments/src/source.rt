@@ -11,11 +11,12 @@ use elementary::trig::cos;
 use envelope::Env;
 use exact::format::narrow;
 use exact::order::clamp_f32;
+use interp::channels::Pair;
 use interp::points::{PCM_PAD, frame_at};
 use interp::position::{floor, frame_index, is_whole, wrap};
-use interp::sinc::{Pair, SincSpan};
+use interp::sinc::SincSpan;
 use interp::{Interp, read_pair};
-use player::{Cold, Hot, LoopRt, MaybeLoop};
+use player::{Cold, Hot, LoopRt};
 use program::region::LoopMode;
 
 // A frame of the sample, and what reading it leaves.
@@ -27,16 +28,16 @@ pub struct Source {
 }
 
 // The loop that the player goes round in: one that sustains ends with the release.
-pub fn looping(env: Env, mode: LoopMode, lp: MaybeLoop) -> MaybeLoop
+pub fn looping(env: Env, mode: LoopMode, lp: Option<LoopRt>) -> Option<LoopRt>
     ensures { result ≡ current_loop env.state mode lp }
 {
     match mode {
-        LoopMode::NoLoop => MaybeLoop::Absent,
-        LoopMode::OneShot => MaybeLoop::Absent,
+        LoopMode::NoLoop => None,
+        LoopMode::OneShot => None,
         LoopMode::Continuous => lp,
         LoopMode::Sustain => {
             if env.released() {
-                return MaybeLoop::Absent;
+                return None;
             }
             lp
         }
@@ -44,23 +45,23 @@ pub fn looping(env: Env, mode: LoopMode, lp: MaybeLoop) -> MaybeLoop
 }
 
 // The position in the loop.
-pub fn place(lp: MaybeLoop, pos: f64) -> f64
+pub fn place(lp: Option<LoopRt>, pos: f64) -> f64
     requires { LoopOk lp × Position pos }
     ensures { (result ≡ place_in lp pos) × Position result × Wrapped lp result }
 {
     match lp {
-        MaybeLoop::Absent => pos,
-        MaybeLoop::Present(l) => wrap(pos, l.start, l.end),
+        None => pos,
+        Some(l) => wrap(pos, l.start, l.end),
     }
 }
 
 // Whether the sample has ended at the position p; in a loop it never does.
-fn at_end(lp: MaybeLoop, last: u32, p: f64) -> bool
+fn at_end(lp: Option<LoopRt>, last: u32, p: f64) -> bool
     ensures { result ≡ at_end lp last p }
 {
     match lp {
-        MaybeLoop::Absent => p >= (last as f64),
-        MaybeLoop::Present(_) => false,
+        None => p >= (last as f64),
+        Some(_) => false,
     }
 }
 
@@ -209,7 +210,7 @@ fn crossfade(
     a: &[f32],
     b: &[f32],
     table: &[f32],
-    lp: MaybeLoop,
+    lp: Option<LoopRt>,
     stored: bool,
     p: f64,
     v: Pair,
@@ -218,8 +219,8 @@ fn crossfade(
     ensures { result ≡ crossfaded cold (record { a = a.entry.now; b = b.now; table = table.now }) lp stored p v }
 {
     match lp {
-        MaybeLoop::Absent => Pair { l: v.l, r: v.r },
-        MaybeLoop::Present(l) => {
+        None => Pair { l: v.l, r: v.r },
+        Some(l) => {
             if in_fade(l, p) {
                 return fade(cold, a, b, table, stored, fade_of(l, p), p - l.size, v);
             }

@@ -1,24 +1,22 @@
 -- Laws over the records in use, for the crates above: what a marking, a removal, an entry and a taken off time leave as it was.
 -- Assumes nothing.
-use Rattle.std.proofs.Common.{◌≡◌, ℕ, zero, suc, ◌<◌, ◌≤◌, Bool, true, false, not, ◌&&◌, eqb, ltb, leb, List, [], ◌∷◌, ◌++◌, map, length, sym, refl, ap, ◌∙◌, arith, ltb-false, le-ltb, lt-ltb, ne_eqb, eqb-true}
+use Rattle.std.specs.List.{list_any}
+use Rattle.std.proofs.Common.{◌≡◌, ℕ, zero, suc, ◌<◌, ◌≤◌, Bool, true, false, not, ◌&&◌, eqb, ltb, leb, List, [], ◌∷◌, ◌++◌, map, length, get_or, sym, refl, ap, ◌∙◌, arith, ltb-false, le-ltb, lt-ltb, ne_eqb, eqb-true, None, Option, Some, is_some, count_by, cond, filter, ◌||◌}
 use borrow.Author.Tests.{not-true}
-use Rattle.session.specs.Lists.{pick, keep, any, elem, used_of, change_if, change_where, change_first}
-use Rattle.session.specs.Records.{marked, ended, collected, choked_by, shares_note, may_yield, of_region, is_sister, quieter, older, of_voice, in_slots, waits, is_set}
-use Rattle.session.specs.Rules.{choke, mark_sisters, lowest, or_stop, yield_up, limit_note, after_note_polyphony, end_oldest, limit_region, polyphony, start_marks, enter, without_voice, without_slots, collect, collect_first, mark_ended, count_of, surplus_of, slots_of}
+use Rattle.session.specs.Lists.{elem, used_of, change_if, change_where, change_first}
+use Rattle.session.specs.Records.{marked, ended, collected, choked_by, shares_note, may_yield, of_region, is_sister, quieter, older, of_voice, in_slots, waits}
+use Rattle.session.specs.Rules.{choke, mark_sisters, lowest, or_stop, yield_up, limit_note, after_note_polyphony, end_oldest, limit_region, polyphony, start_marks, enter, without_voice, without_slots, collect, collect_first, mark_ended, surplus_of, slots_of}
 use Rattle.session.specs.State.{view, with_players, relist, fresh_session, live_ids}
 use Rattle.session.specs.Tests.{stray_record, over_voice}
 use Rattle.session.specs.Changes.{Along, end, one, Marked, unchanged, newly, OwnChange, untouched, turned, unmarked}
-use Rattle.session.specs.declared.Limit.{Limit}
-use Rattle.session.specs.declared.Limit.TheVariants.{Unlimited, Most}
-use Rattle.session.specs.declared.OffAt.TheVariants.{At}
 use Rattle.session.specs.declared.PlayerRecord.{PlayerRecord}
 use Rattle.session.specs.declared.Session.{Session}
 use Rattle.session.specs.declared.Start.{Start}
-use Rattle.session.specs.declared.Victim.{Victim}
-use Rattle.session.specs.declared.Victim.TheVariants.{Nobody, Sounding}
 use Rattle.session.proofs.Relist.{take-few}
-use Rattle.session.proofs.Voices.{keep-fewer}
-use Rattle.session.proofs.Walks.{keep_append, used-small}
+use Rattle.session.proofs.Walks.{used-small}
+use Rattle.std.proofs.lemmas.List.Folds.{list_any_none}
+use Rattle.std.proofs.lemmas.List.Sums.{length-filter, count_by-le-length}
+use Rattle.std.proofs.lemmas.List.Elements.{filter-append}
 
 and_left : (a b : Bool) → a && b ≡ true → a ≡ true
 and_left true b e = refl
@@ -60,7 +58,7 @@ module _ (at : ℕ) where
 
   marked-if : (p : PlayerRecord → Bool) → ((r : PlayerRecord) → p r ≡ true → r.offed ≡ false) → (r : PlayerRecord) → Marked at r (change_if p (marked at) r)
   marked-if p h r = by-case (p r) refl where
-    by-case : (t : Bool) → p r ≡ t → Marked at r (pick t (marked at r) r)
+    by-case : (t : Bool) → p r ≡ t → Marked at r (cond t (marked at r) r)
     by-case true e = newly (h r e)
     by-case false e = unchanged
 
@@ -72,10 +70,10 @@ module _ (at : ℕ) where
   unfolding mark_sisters is_sister
   sisters-along v b rs = marked-where (is_sister v b) (λ r e. not-true r.offed (and_left (not r.offed) (eqb r.voice v && eqb r.start b) e)) rs
 
-  one_of : (w : Victim) (rs : List PlayerRecord) (f : PlayerRecord → List PlayerRecord) → ((c : PlayerRecord) → Along (Marked at) rs (f c))
+  one_of : (w : Option PlayerRecord) (rs : List PlayerRecord) (f : PlayerRecord → List PlayerRecord) → ((c : PlayerRecord) → Along (Marked at) rs (f c))
       → Along (Marked at) rs (or_stop w rs f)
-  one_of Nobody rs f h = along-self (λ r. unchanged) rs
-  one_of (Sounding c) rs f h = h c
+  one_of None rs f h = along-self (λ r. unchanged) rs
+  one_of (Some c) rs f h = h c
 
 module _ (st : Start) where
   pub choke-along : (rs : List PlayerRecord) → Along (Marked st.at) rs (choke st rs)
@@ -92,22 +90,22 @@ module _ (st : Start) where
   pub note-along : (rs : List PlayerRecord) → Along (Marked st.at) rs (after_note_polyphony st rs)
   unfolding after_note_polyphony
   note-along rs = by-case st.note_polyphony where
-    by-case : (l : Limit) → Along (Marked st.at) rs (limit_note l st rs)
-    by-case Unlimited = along-self (λ r. unchanged) rs
-    by-case (Most n) = yield-along (surplus_of (count_of (shares_note st) rs) n) rs
+    by-case : (l : Option ℕ) → Along (Marked st.at) rs (limit_note l st rs)
+    by-case None = along-self (λ r. unchanged) rs
+    by-case (Some n) = yield-along (surplus_of (count_by (shares_note st) rs) n) rs
 
   pub polyphony-along : (rs : List PlayerRecord) → Along (Marked st.at) rs (polyphony st rs)
   unfolding polyphony end_oldest
   polyphony-along rs = by-limit st.polyphony where
-    by-test : (t : Bool) → Along (Marked st.at) rs (pick t (end_oldest st rs) rs)
+    by-test : (t : Bool) → Along (Marked st.at) rs (cond t (end_oldest st rs) rs)
     by-test true =
         one_of st.at (lowest (of_region st) older rs) rs (λ c. mark_sisters c.voice c.start st.at rs)
         (λ c. sisters-along st.at c.voice c.start rs)
     by-test false = along-self (λ r. unchanged) rs
 
-    by-limit : (l : Limit) → Along (Marked st.at) rs (limit_region l st rs)
-    by-limit Unlimited = along-self (λ r. unchanged) rs
-    by-limit (Most p) = by-test (leb p (count_of (of_region st) rs))
+    by-limit : (l : Option ℕ) → Along (Marked st.at) rs (limit_region l st rs)
+    by-limit None = along-self (λ r. unchanged) rs
+    by-limit (Some p) = by-test (leb p (count_by (of_region st) rs))
 
   -- a start keeps number, order and all else of the records, and sets marks only where there was none, each with its time
   pub marks-along : (rs : List PlayerRecord) → Along (Marked st.at) rs (start_marks st rs)
@@ -128,7 +126,7 @@ module _ {at : ℕ} where
   marked-stays (newly e) h = absurd (let z : ◌≡◌ {A = ℕ} 0 1 = cc in omega arith)
 
   -- a mark that is new has the time
-  pub marked-time : {r q : PlayerRecord} → Marked at r q → r.offed ≡ false → q.offed ≡ true → q.off_at ≡ At at
+  pub marked-time : {r q : PlayerRecord} → Marked at r q → r.offed ≡ false → q.offed ≡ true → q.off_at ≡ Some at
   marked-time unchanged h k = absurd (let z : ◌≡◌ {A = ℕ} 0 1 = cc in omega arith)
   marked-time (newly e) h k = refl
 
@@ -141,7 +139,7 @@ marks-same st rs = along-map unmarked (λ r q m. marked-same m) (marks-along st 
 module _ (v : ℕ) (g : PlayerRecord → PlayerRecord) where
   own-if : (p : PlayerRecord → Bool) → ((r : PlayerRecord) → p r ≡ true → r.voice ≡ v) → (r : PlayerRecord) → OwnChange v g r (change_if p g r)
   own-if p h r = by-case (p r) refl where
-    by-case : (t : Bool) → p r ≡ t → OwnChange v g r (pick t (g r) r)
+    by-case : (t : Bool) → p r ≡ t → OwnChange v g r (cond t (g r) r)
     by-case true e = turned (h r e)
     by-case false e = untouched
 
@@ -150,14 +148,14 @@ module _ (v : ℕ) (g : PlayerRecord → PlayerRecord) where
   own_first p h [] = end
   own_first p h (r ∷ rs) = by-case (p r) refl (own_first p h rs) where
     by-case : (t : Bool) → p r ≡ t → Along (OwnChange v g) rs (change_first p g rs)
-        → Along (OwnChange v g) (r ∷ rs) (pick t (g r ∷ rs) (r ∷ change_first p g rs))
+        → Along (OwnChange v g) (r ∷ rs) (cond t (g r ∷ rs) (r ∷ change_first p g rs))
     by-case true e rest = one (turned (h r e)) (along-self (λ x. untouched) rs)
     by-case false e rest = one untouched rest
 
 module _ (v : ℕ) (rs : List PlayerRecord) where
   waits-its : (r : PlayerRecord) → waits v r ≡ true → r.voice ≡ v
   unfolding waits
-  waits-its r e = eqb-true r.voice v (and_left (eqb r.voice v) (is_set r.off_at) e)
+  waits-its r e = eqb-true r.voice v (and_left (eqb r.voice v) (is_some r.off_at) e)
 
   pub collect-along : Along (OwnChange v collected) rs (collect v rs)
   unfolding collect
@@ -177,12 +175,12 @@ module _ (v : ℕ) (rs : List PlayerRecord) where
 
 -- the voice's records, in list order
 abbrev pub records_of : ℕ → List PlayerRecord → List PlayerRecord
-records_of v rs = keep (of_voice v) rs
+records_of v rs = filter (of_voice v) rs
 
 module _ (v : ℕ) where
-  slots-one : (r : PlayerRecord) (rs : List PlayerRecord) → slots_of v (r ∷ rs) ≡ pick (eqb r.voice v) (r.slot ∷ slots_of v rs) (slots_of v rs)
+  slots-one : (r : PlayerRecord) (rs : List PlayerRecord) → slots_of v (r ∷ rs) ≡ cond (eqb r.voice v) (r.slot ∷ slots_of v rs) (slots_of v rs)
   slots-one r rs = by-case (eqb r.voice v) where
-    by-case : (t : Bool) → map (λ (x : PlayerRecord). x.slot) (pick t (r ∷ keep (of_voice v) rs) (keep (of_voice v) rs)) ≡ pick t (r.slot ∷ slots_of v rs) (slots_of v rs)
+    by-case : (t : Bool) → map (λ (x : PlayerRecord). x.slot) (cond t (r ∷ filter (of_voice v) rs) (filter (of_voice v) rs)) ≡ cond t (r.slot ∷ slots_of v rs) (slots_of v rs)
     by-case true = refl
     by-case false = refl
 
@@ -192,9 +190,9 @@ module _ (v : ℕ) where
   slots-along f g end = refl
   slots-along f g (one {x} {y} {xs} {ys} m rest) =
       slots-one y ys
-      ∙ ap (λ k. pick (eqb k v) (y.slot ∷ slots_of v ys) (slots_of v ys)) (f x y m)
-      ∙ ap (λ k. pick (eqb x.voice v) (k ∷ slots_of v ys) (slots_of v ys)) (g x y m)
-      ∙ ap (λ l. pick (eqb x.voice v) (x.slot ∷ l) l) (slots-along f g rest)
+      ∙ ap (λ k. cond (eqb k v) (y.slot ∷ slots_of v ys) (slots_of v ys)) (f x y m)
+      ∙ ap (λ k. cond (eqb x.voice v) (k ∷ slots_of v ys) (slots_of v ys)) (g x y m)
+      ∙ ap (λ l. cond (eqb x.voice v) (x.slot ∷ l) l) (slots-along f g rest)
       ∙ sym (slots-one x xs)
 
   marked-voice : {at : ℕ} (r q : PlayerRecord) → Marked at r q → q.voice ≡ r.voice
@@ -221,11 +219,11 @@ module _ (v : ℕ) where
     -- of another voice not even a mark or a time changes
     pub own-others : (v ≡ u → ⊥) → {rs qs : List PlayerRecord} → Along (OwnChange u g) rs qs → records_of v qs ≡ records_of v rs
     own-others n end = refl
-    own-others n (one {x = r} {xs = rs} {ys = qs} untouched rest) = ap (λ l. pick (eqb r.voice v) (r ∷ l) l) (own-others n rest)
+    own-others n (one {x = r} {xs = rs} {ys = qs} untouched rest) = ap (λ l. cond (eqb r.voice v) (r ∷ l) l) (own-others n rest)
     own-others n (one {x = r} {xs = rs} {ys = qs} (turned e) rest) =
-        ap (λ t. pick t (g r ∷ records_of v qs) (records_of v qs)) (ap (λ k. eqb k v) (gv r) ∙ ne_eqb r.voice v (λ k. n (sym k ∙ e)))
+        ap (λ t. cond t (g r ∷ records_of v qs) (records_of v qs)) (ap (λ k. eqb k v) (gv r) ∙ ne_eqb r.voice v (λ k. n (sym k ∙ e)))
         ∙ own-others n rest
-        ∙ sym (ap (λ t. pick t (r ∷ records_of v rs) (records_of v rs)) (ne_eqb r.voice v (λ k. n (sym k ∙ e))))
+        ∙ sym (ap (λ t. cond t (r ∷ records_of v rs) (records_of v rs)) (ne_eqb r.voice v (λ k. n (sym k ∙ e))))
 
   pub slots-collect : (u : ℕ) (rs : List PlayerRecord) → slots_of v (collect u rs) ≡ slots_of v rs
   slots-collect u rs = slots-own u collected (λ r. refl) (λ r. refl) (collect-along u rs)
@@ -239,12 +237,12 @@ module _ (v : ℕ) where
   -- ---- removal and entry
 
   -- one filter after another, where the first lets through all that the second does
-  kept-kept : (p : PlayerRecord → Bool) → ((r : PlayerRecord) → of_voice v r ≡ true → p r ≡ true) → (rs : List PlayerRecord) → records_of v (keep p rs) ≡ records_of v rs
+  kept-kept : (p : PlayerRecord → Bool) → ((r : PlayerRecord) → of_voice v r ≡ true → p r ≡ true) → (rs : List PlayerRecord) → records_of v (filter p rs) ≡ records_of v rs
   kept-kept p h [] = refl
   kept-kept p h (r ∷ rs) = by-case (p r) (of_voice v r) refl refl (kept-kept p h rs) where
-    by-case : (t b : Bool) → p r ≡ t → of_voice v r ≡ b → records_of v (keep p rs) ≡ records_of v rs
-        → records_of v (pick t (r ∷ keep p rs) (keep p rs)) ≡ pick b (r ∷ records_of v rs) (records_of v rs)
-    by-case true b e f rest = ap (λ k. pick k (r ∷ records_of v (keep p rs)) (records_of v (keep p rs))) f ∙ ap (λ l. pick b (r ∷ l) l) rest
+    by-case : (t b : Bool) → p r ≡ t → of_voice v r ≡ b → records_of v (filter p rs) ≡ records_of v rs
+        → records_of v (cond t (r ∷ filter p rs) (filter p rs)) ≡ cond b (r ∷ records_of v rs) (records_of v rs)
+    by-case true b e f rest = ap (λ k. cond k (r ∷ records_of v (filter p rs)) (records_of v (filter p rs))) f ∙ ap (λ l. cond b (r ∷ l) l) rest
     by-case false true e f rest = absurd (let z : p r ≡ true = h r f in let y : ◌≡◌ {A = ℕ} 0 1 = cc in omega arith)
     by-case false false e f rest = rest
 
@@ -265,24 +263,24 @@ module _ (v : ℕ) where
   unfolding without_voice
   voice-gone [] = refl
   voice-gone (r ∷ rs) = by-case (of_voice v r) refl (voice-gone rs) where
-    by-case : (t : Bool) → of_voice v r ≡ t → records_of v (keep (λ x. not (of_voice v x)) rs) ≡ []
-        → records_of v (pick (not t) (r ∷ keep (λ x. not (of_voice v x)) rs) (keep (λ x. not (of_voice v x)) rs)) ≡ []
+    by-case : (t : Bool) → of_voice v r ≡ t → records_of v (filter (λ x. not (of_voice v x)) rs) ≡ []
+        → records_of v (cond (not t) (r ∷ filter (λ x. not (of_voice v x)) rs) (filter (λ x. not (of_voice v x)) rs)) ≡ []
     by-case true e rest = rest
     by-case false e rest =
-        ap (λ t. pick t (r ∷ records_of v (keep (λ x. not (of_voice v x)) rs)) (records_of v (keep (λ x. not (of_voice v x)) rs))) e ∙ rest
+        ap (λ t. cond t (r ∷ records_of v (filter (λ x. not (of_voice v x)) rs)) (records_of v (filter (λ x. not (of_voice v x)) rs))) e ∙ rest
 
   -- of its own slots those named go, and the others keep their order
-  pub slots-gone : (ks : List ℕ) (rs : List PlayerRecord) → slots_of v (without_slots v ks rs) ≡ keep (λ k. not (elem k ks)) (slots_of v rs)
+  pub slots-gone : (ks : List ℕ) (rs : List PlayerRecord) → slots_of v (without_slots v ks rs) ≡ filter (λ k. not (elem k ks)) (slots_of v rs)
   unfolding without_slots in_slots
   slots-gone ks [] = refl
-  slots-gone ks (r ∷ rs) = by-case (eqb r.voice v) (elem r.slot ks) refl refl (slots-gone ks rs) ∙ ap (keep (λ k. not (elem k ks))) (sym (slots-one r rs)) where
+  slots-gone ks (r ∷ rs) = by-case (eqb r.voice v) (elem r.slot ks) refl refl (slots-gone ks rs) ∙ ap (filter (λ k. not (elem k ks))) (sym (slots-one r rs)) where
     rest : List PlayerRecord
-    rest = keep (λ x. not (eqb x.voice v && elem x.slot ks)) rs
+    rest = filter (λ x. not (eqb x.voice v && elem x.slot ks)) rs
 
     by-case : (t b : Bool) → eqb r.voice v ≡ t → elem r.slot ks ≡ b
-        → slots_of v rest ≡ keep (λ k. not (elem k ks)) (slots_of v rs)
-        → slots_of v (pick (not (eqb r.voice v && elem r.slot ks)) (r ∷ rest) rest)
-        ≡ keep (λ k. not (elem k ks)) (pick (eqb r.voice v) (r.slot ∷ slots_of v rs) (slots_of v rs))
+        → slots_of v rest ≡ filter (λ k. not (elem k ks)) (slots_of v rs)
+        → slots_of v (cond (not (eqb r.voice v && elem r.slot ks)) (r ∷ rest) rest)
+        ≡ filter (λ k. not (elem k ks)) (cond (eqb r.voice v) (r.slot ∷ slots_of v rs) (slots_of v rs))
     by-case true true e f h = simp (e, f) h
     by-case true false e f h = simp (e, f) (ap (λ l. r.slot ∷ l) h)
     by-case false b e f h = simp e h
@@ -290,10 +288,10 @@ module _ (v : ℕ) where
 -- entering is one at the end
 pub enter-room : (r : PlayerRecord) (rs : List PlayerRecord) → length rs < 512 → enter r rs ≡ rs ++ (r ∷ [])
 unfolding enter
-enter-room r rs h = ap (λ t. pick t (rs ++ (r ∷ [])) rs) (lt-ltb (length rs) 512 h)
+enter-room r rs h = ap (λ t. cond t (rs ++ (r ∷ [])) rs) (lt-ltb (length rs) 512 h)
 
-pub records-entered : (v : ℕ) (r : PlayerRecord) (rs : List PlayerRecord) → records_of v (rs ++ (r ∷ [])) ≡ records_of v rs ++ pick (of_voice v r) (r ∷ []) []
-records-entered v r rs = keep_append (of_voice v) rs (r ∷ [])
+pub records-entered : (v : ℕ) (r : PlayerRecord) (rs : List PlayerRecord) → records_of v (rs ++ (r ∷ [])) ≡ records_of v rs ++ cond (of_voice v r) (r ∷ []) []
+records-entered v r rs = filter-append (of_voice v) rs (r ∷ [])
 
 -- ---- the session
 
@@ -306,20 +304,20 @@ unfolding fresh_session
 fresh-empty = refl
 
 -- where no record is stray and no live voice has above 32 records, no voice has
-any_false : {A : Type 0} (p : A → Bool) (x : A) (xs : List A) → pick (p x) true (any p xs) ≡ false → (p x ≡ false) × (any p xs ≡ false)
+any_false : {A : Type 0} (p : A → Bool) (x : A) (xs : List A) → p x || list_any p xs ≡ false → (p x ≡ false) × (list_any p xs ≡ false)
 any_false p x xs e = by-case (p x) refl e where
-  by-case : (t : Bool) → p x ≡ t → pick t true (any p xs) ≡ false → (p x ≡ false) × (any p xs ≡ false)
+  by-case : (t : Bool) → p x ≡ t → t || list_any p xs ≡ false → (p x ≡ false) × (list_any p xs ≡ false)
   by-case true f h = absurd (let z : ◌≡◌ {A = ℕ} 0 1 = cc in omega arith)
   by-case false f h = (f, h)
 
 -- a voice that stands in no record's live voices has no record
-no_stray : (is : List ℕ) (v : ℕ) → elem v is ≡ false → (rs : List PlayerRecord) → any (λ (r : PlayerRecord). not (elem r.voice is)) rs ≡ false → records_of v rs ≡ []
+no_stray : (is : List ℕ) (v : ℕ) → elem v is ≡ false → (rs : List PlayerRecord) → list_any (λ (r : PlayerRecord). not (elem r.voice is)) rs ≡ false → records_of v rs ≡ []
 no_stray is v n [] e = refl
 no_stray is v n (r ∷ rs) e =
     let both = any_false (λ (x : PlayerRecord). not (elem x.voice is)) r rs e in
     by-case (eqb r.voice v) refl both.0 (no_stray is v n rs both.1) where
       by-case : (t : Bool) → eqb r.voice v ≡ t → not (elem r.voice is) ≡ false → records_of v rs ≡ []
-          → pick t (r ∷ records_of v rs) (records_of v rs) ≡ []
+          → cond t (r ∷ records_of v rs) (records_of v rs) ≡ []
       by-case true f h rest = absurd (let k : elem r.voice is ≡ elem v is = ap (λ x. elem x is) (eqb-true r.voice v f) in let z : ◌≡◌ {A = ℕ} 0 1 = cc in omega arith)
       by-case false f h rest = rest
 
@@ -327,11 +325,11 @@ pub not-live-none : (s : Session) (v : ℕ) → stray_record s ≡ false → ele
 unfolding stray_record
 not-live-none s v e n = no_stray (live_ids s.voices) v n (view s) e
 
-among : (is : List ℕ) (v : ℕ) (p : ℕ → Bool) → elem v is ≡ true → any p is ≡ false → p v ≡ false
+among : (is : List ℕ) (v : ℕ) (p : ℕ → Bool) → elem v is ≡ true → list_any p is ≡ false → p v ≡ false
 among [] v p e h = absurd (let z : ◌≡◌ {A = ℕ} 0 1 = cc in omega arith)
 among (i ∷ is) v p e h =
     let both = any_false p i is h in by-case (eqb i v) refl both.0 (λ k. among is v p k both.1) e where
-      by-case : (t : Bool) → eqb i v ≡ t → p i ≡ false → (elem v is ≡ true → p v ≡ false) → pick t true (elem v is) ≡ true → p v ≡ false
+      by-case : (t : Bool) → eqb i v ≡ t → p i ≡ false → (elem v is ≡ true → p v ≡ false) → t || elem v is ≡ true → p v ≡ false
       by-case true f g rest k = ap p (sym (eqb-true i v f)) ∙ g
       by-case false f g rest k = rest k
 
@@ -340,18 +338,16 @@ pub none_over : (s : Session) → stray_record s ≡ false → over_voice s ≡ 
 unfolding over_voice
 none_over s e h v = by-case (elem v (live_ids s.voices)) refl where
   by-case : (t : Bool) → elem v (live_ids s.voices) ≡ t → length (records_of v (view s)) ≤ 32
-  by-case true k = ltb-false 32 (length (records_of v (view s))) (among (live_ids s.voices) v (λ id. ltb 32 (count_of (of_voice id) (view s))) k h)
+  by-case true k =
+      let few = ltb-false 32 (count_by (of_voice v) (view s)) (among (live_ids s.voices) v (λ id. ltb 32 (count_by (of_voice id) (view s))) k h) in
+      omega (arith, few, length-filter (of_voice v) (view s))
   by-case false k = omega (arith, ap length (not-live-none s v e k))
-
-any_none : {A : Type 0} (p : A → Bool) → ((x : A) → p x ≡ false) → (xs : List A) → any p xs ≡ false
-any_none p h [] = refl
-any_none p h (x ∷ xs) = ap (λ t. pick t true (any p xs)) (h x) ∙ any_none p h xs
 
 -- a list of at most 32 records has no more of one voice
 pub over-few : (s : Session) → s.count ≤ 32 → false ≡ over_voice s
 unfolding over_voice
 over-few s h =
     let n = used-small 512 s.count (omega arith) in
-    sym (any_none (λ id. ltb 32 (count_of (of_voice id) (view s)))
-    (λ id. le-ltb 32 (count_of (of_voice id) (view s)) (omega (arith, keep-fewer (of_voice id) (view s), take-few (used_of 512 s.count) s.players, n)))
-    (live_ids s.voices))
+    let few : (id : ℕ) → count_by (of_voice id) (view s) ≤ 32 = λ id. omega (arith, count_by-le-length (of_voice id) (view s), take-few (used_of 512 s.count) s.players, n) in
+    sym (list_any_none (λ id. ltb 32 (count_by (of_voice id) (view s))) (live_ids s.voices)
+    (λ k d inside. le-ltb 32 (count_by (of_voice (get_or (live_ids s.voices) k d)) (view s)) (few (get_or (live_ids s.voices) k d))))

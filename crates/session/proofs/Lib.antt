@@ -1,4 +1,3 @@
-pub mod Asked
 pub mod Walks
 pub mod Search
 pub mod Packing

@@ -1,42 +1,23 @@
--- Whether an id stands twice, and whether records have the slots of their players. Assumes nothing.
-use Rattle.std.proofs.Common.{◌≡◌, ℕ, ◌+◌, ◌<◌, ◌≤◌, Bool, true, false, eqb, List, [], ◌∷◌, map, length, get_or, take, drop, sym, refl, ap, ◌∙◌, arith, eq-eqb, ne_eqb, eqb-true}
+-- Whether records have the slots of their players. Assumes nothing.
+use Rattle.std.proofs.Common.{◌≡◌, ℕ, ◌+◌, ◌<◌, ◌≤◌, Bool, true, false, eqb, List, [], ◌∷◌, map, length, get_or, take, drop, sym, refl, ap, ◌∙◌, le_refl, take_all, arith, eq-eqb, ne_eqb, eqb-true, cond, filter}
 use borrow.Author.Tests.{eqb-false}
-use Rattle.session.specs.Lists.{pick, keep, elem, twice}
 use Rattle.session.specs.Records.{of_voice}
 use Rattle.session.specs.Rules.{slots_of}
-use Rattle.session.specs.Tests.{same_list}
+use Rattle.session.specs.Tests.{same_list, slots_in_order}
+use Rattle.session.specs.State.{view, slot_list}
 use Rattle.session.specs.declared.PlayerRecord.{PlayerRecord}
+use Rattle.session.specs.declared.Session.{Session}
+use Rattle.session.specs.declared.Slots.{Slots}
 use Rattle.session.proofs.Search.{rest-step, rest-none}
-
--- the state of the loop that looks for an id that stands twice: the answer for what is left is the answer
-pub record TwiceLeft (n : ℕ) (xs : List ℕ) (i : ℕ) : Type 0 where
-  pub fits : n ≤ length xs
-  pub left : twice (take n xs) ≡ twice (drop i (take n xs))
-
-module _ (n : ℕ) (xs : List ℕ) (i : ℕ) (h : TwiceLeft n xs i) where
-  pub twice-over : n ≤ i → false ≡ twice (take n xs)
-  twice-over q = sym (h.left ∙ ap twice (rest-none xs n h.fits i q))
-
-  module _ (d : ℕ) (inside : i < n) (b : Bool) (told : b ≡ elem (get_or xs i d) (drop (i + 1) (take n xs))) where
-    here : (t : Bool) → b ≡ t → twice (take n xs) ≡ pick t true (twice (drop (i + 1) (take n xs)))
-    here t e =
-        h.left ∙ ap twice (rest-step xs n h.fits i d inside)
-        ∙ ap (λ k. pick k true (twice (drop (i + 1) (take n xs)))) (sym told ∙ e)
-
-    pub twice_found : b ≡ true → true ≡ twice (take n xs)
-    twice_found e = sym (here true e)
-
-    pub twice-next : b ≡ false → TwiceLeft n xs (i + 1)
-    twice-next e = record { fits = h.fits; left = here false e }
 
 -- ---- the slots of a voice's records
 
 module _ (v : ℕ) (r : PlayerRecord) (rs : List PlayerRecord) where
   other-voice : (r.voice ≡ v → ⊥) → slots_of v (r ∷ rs) ≡ slots_of v rs
-  other-voice n = ap (λ t. map (λ (x : PlayerRecord). x.slot) (pick t (r ∷ keep (of_voice v) rs) (keep (of_voice v) rs))) (ne_eqb r.voice v n)
+  other-voice n = ap (λ t. map (λ (x : PlayerRecord). x.slot) (cond t (r ∷ filter (of_voice v) rs) (filter (of_voice v) rs))) (ne_eqb r.voice v n)
 
   own-voice : r.voice ≡ v → slots_of v (r ∷ rs) ≡ r.slot ∷ slots_of v rs
-  own-voice e = ap (λ t. map (λ (x : PlayerRecord). x.slot) (pick t (r ∷ keep (of_voice v) rs) (keep (of_voice v) rs))) (eq-eqb r.voice v e)
+  own-voice e = ap (λ t. map (λ (x : PlayerRecord). x.slot) (cond t (r ∷ filter (of_voice v) rs) (filter (of_voice v) rs))) (eq-eqb r.voice v e)
 
 -- all records are read: the slots match where no player is left
 all_read : (slots : List ℕ) (m j : ℕ) → m ≤ length slots → j ≤ m → same_list [] (drop j (take m slots)) ≡ eqb j m
@@ -82,10 +63,10 @@ module _ (v n m : ℕ) (rs : List PlayerRecord) (ks : List ℕ) (i j : ℕ) (h :
 
       module _ (q : j < m) where
         both : (t : Bool) → eqb (get_or rs i d).slot (get_or ks j 0) ≡ t
-            → same_list (slots_of v (take n rs)) (take m ks) ≡ pick t (same_list (slots_of v (drop (i + 1) (take n rs))) (drop (j + 1) (take m ks))) false
+            → same_list (slots_of v (take n rs)) (take m ks) ≡ cond t (same_list (slots_of v (drop (i + 1) (take n rs))) (drop (j + 1) (take m ks))) false
         both t f =
             own ∙ ap (same_list ((get_or rs i d).slot ∷ slots_of v (drop (i + 1) (take n rs)))) (rest-step ks m h.all_slots j 0 q)
-            ∙ ap (λ k. pick k (same_list (slots_of v (drop (i + 1) (take n rs))) (drop (j + 1) (take m ks))) false) f
+            ∙ ap (λ k. cond k (same_list (slots_of v (drop (i + 1) (take n rs))) (drop (j + 1) (take m ks))) false) f
 
         pub left-differs : (get_or ks j 0 ≡ (get_or rs i d).slot → ⊥) → false ≡ same_list (slots_of v (take n rs)) (take m ks)
         left-differs f = sym (both false (ne_eqb (get_or rs i d).slot (get_or ks j 0) (λ k. f (sym k))))
@@ -98,3 +79,11 @@ module _ (v n m : ℕ) (rs : List PlayerRecord) (ks : List ℕ) (i j : ℕ) (h :
           at_slot = omega arith;
           same = both true (eq-eqb (get_or rs i d).slot (get_or ks j 0) (sym f));
         }
+
+-- the loop goes over the records and the slots in use
+pub in-use : (v : ℕ) (s : Session) (q : Slots) (rs : List PlayerRecord) (ks : List ℕ) → rs ≡ view s → ks ≡ slot_list q
+    → same_list (slots_of v (take (length rs) rs)) (take (length ks) ks) ≡ slots_in_order v (slot_list q) s
+unfolding slots_in_order
+in-use v s q rs ks e f =
+    ap (λ l. same_list (slots_of v l) (take (length ks) ks)) (take_all (length rs) rs (le_refl (length rs)) ∙ e)
+    ∙ ap (same_list (slots_of v (view s))) (take_all (length ks) ks (le_refl (length ks)) ∙ f)

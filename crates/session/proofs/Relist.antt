@@ -1,9 +1,11 @@
 -- The session with another list of records. Assumes nothing.
-use Rattle.std.proofs.Common.{◌≡◌, ℕ, zero, suc, ◌+◌, ◌<◌, ◌≤◌, true, false, ltb, List, [], ◌∷◌, ◌++◌, length, take, drop, set, sym, refl, ap, ◌∙◌, arith, length-append, length-drop, take-append-drop, length-take-le, drop_at, le-ltb, lt-ltb}
+use Rattle.std.proofs.Common.{◌≡◌, ℕ, zero, suc, ◌+◌, ◌<◌, ◌≤◌, Bool, true, false, ltb, filter, append_assoc, List, [], ◌∷◌, ◌++◌, length, take, drop, set, sym, refl, ap, ◌∙◌, arith, length-append, length-drop, take-append-drop, length-take-le, drop_at, le-ltb, lt-ltb, cond}
 use lib.Seq.{take-append_seam}
+use Rattle.std.proofs.lemmas.List.{drop-append-le}
+use Rattle.std.proofs.lemmas.List.Sums.{length-filter, count_by-le-length}
 use Rattle.session.specs.Rules.{enter}
 use Rattle.session.proofs.Packing.{put-behind}
-use Rattle.session.specs.Lists.{pick, used_of, packed}
+use Rattle.session.specs.Lists.{used_of, packed}
 use Rattle.session.specs.State.{view, with_players, relist}
 use Rattle.session.specs.declared.PlayerRecord.{PlayerRecord}
 use Rattle.session.specs.declared.Session.{Session}
@@ -16,6 +18,16 @@ pub take-few : {A : Type 0} (n : ℕ) (xs : List A) → length (take n xs) ≤ n
 take-few zero xs = omega arith
 take-few (suc n) [] = omega arith
 take-few (suc n) (x ∷ xs) = omega (arith, take-few n xs)
+
+-- what is packed among the first n is packed among all
+pub packed-within : {A : Type 0} (ks front xs back : List A) (n : ℕ) → length front ≡ n → front ≡ take n xs → back ≡ drop n xs → length ks ≤ n
+    → packed ks front ++ back ≡ packed ks xs
+packed-within ks front xs back n m e f h =
+    append_assoc ks (drop (length ks) front) back
+    ∙ ap (λ l. ks ++ l) (sym (drop-append-le (length ks) front back (omega (arith, m, h))) ∙ ap (drop (length ks)) (rw (e, f) (take-append-drop n xs)))
+
+pub keep-fewer : {A : Type 0} (p : A → Bool) (xs : List A) → length (filter p xs) ≤ length xs
+keep-fewer p xs = omega (arith, length-filter p xs, count_by-le-length p xs)
 
 -- the list never has more than 512 records
 pub view-few : (s : Session) → length (view s) ≤ 512
@@ -47,6 +59,30 @@ relist-again s ps qs e =
     (ap (λ (k : ℕ). drop k (packed ps s.players)) (sym e) ∙ drop_at ps (drop (length ps) s.players) (length ps) refl
     ∙ ap (λ (k : ℕ). drop k s.players) e)
 
+-- the records in use, changed in place: n of them stand in front, and the places behind are as they were
+module _ (s : Session) (n : ℕ) (told : n ≡ used_of 512 s.count) (front back : List PlayerRecord) (as_many : length front ≡ n)
+    (first : front ≡ take n s.players) (rest : back ≡ drop n s.players) where
+  pub in_front : front ≡ view s
+  in_front = first ∙ ap (λ k. take k s.players) told
+
+  -- each by a rule that keeps their number
+  pub in-place : (f : List PlayerRecord → List PlayerRecord) → ((rs : List PlayerRecord) → length (f rs) ≡ length rs) → (ks : List PlayerRecord) → ks ≡ f front
+      → with_players (ks ++ back) n s ≡ relist (f (view s)) s
+  in-place f same ks e =
+      let m : length ks ≡ n = ap length e ∙ same front ∙ as_many in
+      ap (λ l. with_players (ks ++ l) n s) rest
+      ∙ ap (λ k. with_players (ks ++ drop k s.players) k s) (sym m)
+      ∙ ap (λ l. relist l s) (e ∙ ap f in_front)
+
+  -- those that p holds of stay
+  pub retained : (p : PlayerRecord → Bool) (ks : List PlayerRecord) (k : ℕ) → (ks ≡ packed (filter p front) front) × (k ≡ length (filter p front))
+      → with_players (ks ++ back) k s ≡ relist (filter p (view s)) s
+  retained p ks k h =
+      ap (λ l. with_players (l ++ back) k s) h.0
+      ∙ ap (λ l. with_players l k s) (packed-within (filter p front) front s.players back n as_many first rest (omega (arith, keep-fewer p front, as_many)))
+      ∙ ap (λ m. with_players (packed (filter p front) s.players) m s) h.1
+      ∙ ap (λ l. relist (filter p l) s) in_front
+
 -- what the test of `enter_record` tells
 module _ (s : Session) (size : length s.players ≡ 512) (r : PlayerRecord) (n : ℕ) (told : n ≡ used_of 512 s.count) where
   in_use : length (view s) ≡ n
@@ -56,7 +92,7 @@ module _ (s : Session) (size : length s.players ≡ 512) (r : PlayerRecord) (n :
   unfolding enter
   enter-full h =
       let t : ltb (length (view s)) 512 ≡ false = le-ltb (length (view s)) 512 (omega (arith, in_use)) in
-      sym (ap (λ b. relist (pick b (view s ++ (r ∷ [])) (view s)) s) t
+      sym (ap (λ b. relist (cond b (view s ++ (r ∷ [])) (view s)) s) t
       ∙ ap (λ k. with_players (view s ++ drop k s.players) k s) in_use
       ∙ ap (λ k. with_players (take k s.players ++ drop n s.players) n s) (sym told)
       ∙ ap (λ l. with_players l n s) (take-append-drop n s.players))
@@ -66,7 +102,7 @@ module _ (s : Session) (size : length s.players ≡ 512) (r : PlayerRecord) (n :
   enter-room q h e =
       let t : ltb (length (view s)) 512 ≡ true = lt-ltb (length (view s)) 512 (omega (arith, in_use)) in
       let m : n + 1 ≡ length (view s ++ (r ∷ [])) = sym (length-append (view s) (r ∷ []) ∙ ap (λ k. k + 1) in_use) in
-      sym (ap (λ b. relist (pick b (view s ++ (r ∷ [])) (view s)) s) t
+      sym (ap (λ b. relist (cond b (view s ++ (r ∷ [])) (view s)) s) t
       ∙ ap (λ k. with_players (packed (view s ++ (r ∷ [])) s.players) k s) (sym m)
       ∙ ap (λ k. with_players (packed (take k s.players ++ (r ∷ [])) s.players) (n + 1) s) (sym told)
       ∙ ap (λ l. with_players l (n + 1) s) (sym (put-behind s.players n r (omega arith)))

@@ -1,14 +1,13 @@
 -- The live voices, and the session's numbers. Assumes nothing.
-use Rattle.std.proofs.Common.{◌≡◌, ℕ, suc, ◌+◌, ◌-◌, ◌%◌, ◌^◌, ◌<◌, ◌≤◌, Bool, true, false, not, ◌&&◌, eqb, ltb, leb, List, [], ◌∷◌, ◌++◌, length, get_or, take, drop, set, replicate, sym, refl, ap, ◌∙◌, le_antisymm, arith, length-append, length-take-le, ltb-true, leb-true}
+use Rattle.std.proofs.Common.{◌≡◌, ℕ, ◌+◌, ◌%◌, ◌^◌, ◌<◌, ◌≤◌, Bool, true, false, not, ◌&&◌, eqb, ltb, leb, List, [], ◌∷◌, ◌++◌, length, get_or, take, drop, set, sym, refl, ap, ◌∙◌, arith, length-append, length-take-le, ltb-true, leb-true, None, Some, cond, filter}
 use lib.Seq.{set_out, take-append_seam}
-use Rattle.session.specs.Lists.{pick, keep, packed, used_of}
-use Rattle.session.specs.State.{live_ids, relive, has_place, placed, freed, opened, ended_voice, with_voices, with_held, held_down, seq_stepped, seq_hit, no_record, fresh_session}
+use Rattle.session.specs.Lists.{packed, used_of}
+use Rattle.session.specs.State.{live_ids, relive, has_place, placed, freed, opened, ended_voice, with_voices, seq_stepped, seq_hit}
 use Rattle.session.specs.declared.LiveVoices.{LiveVoices}
-use Rattle.session.specs.declared.PlayerRecord.{PlayerRecord}
 use Rattle.session.specs.declared.Sequences.{Sequences}
 use Rattle.session.specs.declared.Session.{Session}
-use Rattle.session.proofs.Packing.{Packed, put-behind}
-use Rattle.session.proofs.Relist.{packed-size, take-few}
+use Rattle.session.proofs.Packing.{put-behind}
+use Rattle.session.proofs.Relist.{packed-size, packed-within, take-few, keep-fewer}
 use Rattle.session.proofs.Walks.{used-below, used-small}
 
 and_left : (a b : Bool) → a && b ≡ true → a ≡ true
@@ -40,41 +39,32 @@ module _ (v : LiveVoices) (h : has_place v ≡ true) where
 
 -- what the test of `new_voice` tells
 module _ (s : Session) (b : Bool) (told : b ≡ has_place s.voices) where
-  pub open-not : b ≡ false → record { session = s; id = 0 } ≡ opened s
+  pub open-not : b ≡ false → record { session = s; id = None } ≡ opened s
   unfolding opened
   open-not h =
-      sym (ap (λ t. pick t (record { session = with_voices (placed s.voices) s; id = s.voices.next_voice }) (record { session = s; id = 0 })) (sym told ∙ h))
+      sym (ap (λ t. cond t (record { session = with_voices (placed s.voices) s; id = Some s.voices.next_voice }) (record { session = s; id = None })) (sym told ∙ h))
 
   pub open-new : b ≡ true → (w : LiveVoices) → w ≡ placed s.voices
-      → record { session = with_voices w s; id = s.voices.next_voice } ≡ opened s
+      → record { session = with_voices w s; id = Some s.voices.next_voice } ≡ opened s
   unfolding opened
   open-new h w e =
-      ap (λ x. record { session = with_voices x s; id = s.voices.next_voice }) e
-      ∙ sym (ap (λ t. pick t (record { session = with_voices (placed s.voices) s; id = s.voices.next_voice }) (record { session = s; id = 0 })) (sym told ∙ h))
-
--- live voices whose ids alone have changed
-abbrev pub OnlyIds : LiveVoices → LiveVoices → Type 0
-OnlyIds v w = w ≡ record { ids = w.ids; count = v.count; next_voice = v.next_voice }
-
-pub ids_set : (v w : LiveVoices) (j x : ℕ) → OnlyIds v w
-    → OnlyIds v (record { ids = set w.ids j x; count = w.count; next_voice = w.next_voice })
-ids_set v w j x e = ap (λ (y : LiveVoices). record { ids = set w.ids j x; count = y.count; next_voice = y.next_voice }) e
+      ap (λ x. record { session = with_voices x s; id = Some s.voices.next_voice }) e
+      ∙ sym (ap (λ t. cond t (record { session = with_voices (placed s.voices) s; id = Some s.voices.next_voice }) (record { session = s; id = None })) (sym told ∙ h))
 
 abbrev pub others : ℕ → ℕ → Bool
 others id x = not (eqb x id)
 
--- the loop over the live ids has ended
-pub freed-done : (id : ℕ) (v w : LiveVoices) (i j n : ℕ) → Packed (others id) v.ids w.ids i j → OnlyIds v w → i ≤ n → n ≤ i
-    → n ≡ used_of 16 v.count → record { ids = w.ids; count = j; next_voice = w.next_voice } ≡ freed id v
+-- the ids that stay have moved up among those in use
+pub freed-done : (id : ℕ) (v : LiveVoices) (n : ℕ) → n ≡ used_of 16 v.count → (front back : List ℕ) → length front ≡ n → front ≡ take n v.ids
+    → back ≡ drop n v.ids → (ks : List ℕ) (k : ℕ) → (ks ≡ packed (filter (others id) front) front) × (k ≡ length (filter (others id) front))
+    → record { ids = ks ++ back; count = k; next_voice = v.next_voice } ≡ freed id v
 unfolding freed
-freed-done id v w i j n h o a b e =
-    ap (λ (y : LiveVoices). record { ids = w.ids; count = j; next_voice = y.next_voice }) o
-    ∙ ap (λ (l : List ℕ). record { ids = l; count = j; next_voice = v.next_voice }) h.so_far
-    ∙ ap (λ (k : ℕ). record { ids = packed (keep (others id) (take i v.ids)) v.ids; count = k; next_voice = v.next_voice }) h.counted
-    ∙ ap (λ (k : ℕ). relive (keep (others id) (take k v.ids)) v.next_voice v) (le_antisymm a b ∙ e)
-
-pub held_none : (s : Session) → s.held ≡ 0 → s ≡ held_down s
-held_none s h = let q : s.held ≡ s.held - 1 = omega arith in ap (λ n. with_held n s) q
+freed-done id v n told front back m e f ks k h =
+    ap (λ l. record { ids = l ++ back; count = k; next_voice = v.next_voice }) h.0
+    ∙ ap (λ l. record { ids = l; count = k; next_voice = v.next_voice })
+    (packed-within (filter (others id) front) front v.ids back n m e f (omega (arith, keep-fewer (others id) front, m)))
+    ∙ ap (λ q. record { ids = packed (filter (others id) front) v.ids; count = q; next_voice = v.next_voice }) h.1
+    ∙ ap (λ l. relive (filter (others id) l) v.next_voice v) (e ∙ ap (λ q. take q v.ids) told)
 
 -- a region past the counters
 pub no-counter : (r len at : ℕ) (q : Sequences) → length q.seq_counter ≡ 256 → length q.seq_on ≡ 256 → 256 ≤ r → q ≡ seq_stepped r len at q
@@ -91,20 +81,6 @@ unfolding seq_stepped
 counted-on r len at q c b e f =
     ap (λ x. record { seq_counter = set q.seq_counter r x; seq_on = set q.seq_on r b }) e
     ∙ ap (λ x. record { seq_counter = set q.seq_counter r ((get_or q.seq_counter r 0 + 1) % 2 ^ 32); seq_on = set q.seq_on r x }) f
-
-abbrev empty_with : PlayerRecord → Session
-empty_with r = record {
-  players = replicate 512 r;
-  count = 0;
-  seq = record { seq_counter = replicate 256 0; seq_on = replicate 256 false };
-  voices = record { ids = replicate 16 0; count = 0; next_voice = 1 };
-  event_serial = 0;
-  held = 0;
-}
-
-pub fresh-of : (r : PlayerRecord) → r ≡ no_record → empty_with r ≡ fresh_session
-unfolding fresh_session
-fresh-of r e = ap empty_with e
 
 -- the end of a voice's notes leaves the live voices as they are
 pub ended-voices : (v : ℕ) (gate : Bool) (s : Session) → (ended_voice v gate s).voices ≡ s.voices
@@ -137,18 +113,11 @@ pub next-placed : (v : LiveVoices) → (placed v).next_voice ≡ v.next_voice + 
 unfolding placed
 next-placed v = refl
 
-pub keep-fewer : {A : Type 0} (p : A → Bool) (xs : List A) → length (keep p xs) ≤ length xs
-keep-fewer p [] = omega arith
-keep-fewer p (x ∷ xs) = by-case (p x) (keep-fewer p xs) where
-  by-case : (t : Bool) → length (keep p xs) ≤ length xs → length (pick t (x ∷ keep p xs) (keep p xs)) ≤ suc (length xs)
-  by-case true h = omega arith
-  by-case false h = omega arith
-
 -- a freed place takes the voice out, and the next id stays
-pub live-freed : (id : ℕ) (v : LiveVoices) → live_ids (freed id v) ≡ keep (others id) (live_ids v)
+pub live-freed : (id : ℕ) (v : LiveVoices) → live_ids (freed id v) ≡ filter (others id) (live_ids v)
 unfolding freed
 live-freed id v =
-    live-relive (keep (others id) (live_ids v)) v.next_voice v
+    live-relive (filter (others id) (live_ids v)) v.next_voice v
     (omega (arith, keep-fewer (others id) (live_ids v), live-few v, used-below 16 v.count))
 
 pub next-freed : (id : ℕ) (v : LiveVoices) → (freed id v).next_voice ≡ v.next_voice

@@ -1,6 +1,5 @@
 -- The ways in which a whole list of records may change: what the laws over the session's list speak of.
-use Rattle.std.specs.Prelude.{◌≡◌, ℕ, false, List, [], ◌∷◌}
-use Rattle.session.specs.declared.OffAt.TheVariants.{Never}
+use Rattle.std.specs.Prelude.{◌≡◌, ℕ, false, List, [], ◌∷◌, None}
 use Rattle.session.specs.declared.PlayerRecord.{PlayerRecord}
 use Rattle.session.specs.Records.{marked}
 
@@ -21,16 +20,4 @@ pub data OwnChange (v : ℕ) (g : PlayerRecord → PlayerRecord) : PlayerRecord 
 
 -- the record without mark and off time: what no marking changes
 abbrev pub unmarked : PlayerRecord → PlayerRecord
-unmarked r = record {
-  voice = r.voice;
-  slot = r.slot;
-  region = r.region;
-  group = r.group;
-  off_by = r.off_by;
-  note = r.note;
-  vel = r.vel;
-  on_note = r.on_note;
-  start = r.start;
-  offed = false;
-  off_at = Never;
-}
+unmarked r = record r { offed = false; off_at = None }

@@ -2,7 +2,6 @@ pub mod Lists
 pub mod Records
 pub mod Rules
 pub mod State
-pub mod Removal
 pub mod Tests
 pub mod Offs
 pub mod Changes

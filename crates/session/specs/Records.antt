@@ -1,9 +1,7 @@
 -- One record of the session's list: what is asked of it, and the ways in which it changes.
-use Rattle.std.specs.Prelude.{ℕ, Bool, true, false, not, ◌&&◌, ◌||◌, List, ℤ, pos, negsuc, ◌==◌, nat_le, nat_lt}
-use Rattle.session.specs.declared.OffBy.{OffBy}
-use Rattle.session.specs.declared.OffBy.TheVariants.{Nobody, Group}
-use Rattle.session.specs.declared.OffAt.{OffAt}
-use Rattle.session.specs.declared.OffAt.TheVariants.{Never, At}
+use Rattle.std.specs.Prelude.{ℕ, Bool, true, false, not, ◌&&◌, ◌||◌, List, ◌==◌, nat_le, nat_lt, is_some, None, Some}
+use Rattle.std.specs.Ordering.{int_eq}
+use Rattle.std.specs.Option.{option_eq}
 use Rattle.session.specs.declared.PlayerRecord.{PlayerRecord}
 use Rattle.session.specs.declared.Start.{Start}
 use Rattle.session.specs.declared.Window.{Window}
@@ -13,51 +11,15 @@ use Rattle.session.specs.Lists.{elem}
 
 -- marked: the off mark set, and the off time
 abbrev pub marked : ℕ → PlayerRecord → PlayerRecord
-marked at r = record {
-  voice = r.voice;
-  slot = r.slot;
-  region = r.region;
-  group = r.group;
-  off_by = r.off_by;
-  note = r.note;
-  vel = r.vel;
-  on_note = r.on_note;
-  start = r.start;
-  offed = true;
-  off_at = At at;
-}
+marked at r = record r { offed = true; off_at = Some at }
 
 -- its sample has ended: the off mark set, and no off time given
 abbrev pub ended : PlayerRecord → PlayerRecord
-ended r = record {
-  voice = r.voice;
-  slot = r.slot;
-  region = r.region;
-  group = r.group;
-  off_by = r.off_by;
-  note = r.note;
-  vel = r.vel;
-  on_note = r.on_note;
-  start = r.start;
-  offed = true;
-  off_at = r.off_at;
-}
+ended r = record r { offed = true }
 
 -- its off time has been taken by its voice
 abbrev pub collected : PlayerRecord → PlayerRecord
-collected r = record {
-  voice = r.voice;
-  slot = r.slot;
-  region = r.region;
-  group = r.group;
-  off_by = r.off_by;
-  note = r.note;
-  vel = r.vel;
-  on_note = r.on_note;
-  start = r.start;
-  offed = r.offed;
-  off_at = Never;
-}
+collected r = record r { off_at = None }
 
 -- the record of a region that starts in the slot k of its voice
 abbrev pub entered : Start → ℕ → PlayerRecord
@@ -72,29 +34,18 @@ entered st k = record {
   on_note = st.on_note;
   start = st.serial;
   offed = false;
-  off_at = Never;
+  off_at = None;
 }
 
 -- ---- what is asked of a record
 
--- whether two signed numbers are the same
-abbrev pub same_z : ℤ → ℤ → Bool
-same_z (pos a) (pos b) = a == b
-same_z (negsuc a) (negsuc b) = a == b
-same_z (pos a) (negsuc b) = false
-same_z (negsuc a) (pos b) = false
-
-abbrev pub off_by_is : OffBy → ℤ → Bool
-off_by_is Nobody g = false
-off_by_is (Group h) g = same_z h g
-
 -- the record has both the start's group and its note
 unfoldable pub shares_both : Start → PlayerRecord → Bool
-shares_both st r = same_z r.group st.group && r.note == st.note
+shares_both st r = int_eq r.group st.group && r.note == st.note
 
 -- an unmarked note-on record whose off_by is the start's group, save one with both its group and its note
 unfoldable pub choked_by : Start → PlayerRecord → Bool
-choked_by st r = not r.offed && (r.on_note && (off_by_is r.off_by st.group && not (shares_both st r)))
+choked_by st r = not r.offed && (r.on_note && (option_eq int_eq r.off_by (Some st.group) && not (shares_both st r)))
 
 -- an unmarked record that shares group and note with the start
 unfoldable pub shares_note : Start → PlayerRecord → Bool
@@ -127,13 +78,9 @@ of_voice v r = r.voice == v
 unfoldable pub in_slots : ℕ → List ℕ → PlayerRecord → Bool
 in_slots v ks r = r.voice == v && elem r.slot ks
 
-abbrev pub is_set : OffAt → Bool
-is_set Never = false
-is_set (At t) = true
-
 -- a record of the voice whose off time waits
 unfoldable pub waits : ℕ → PlayerRecord → Bool
-waits v r = r.voice == v && is_set r.off_at
+waits v r = r.voice == v && is_some r.off_at
 
 -- a note-on record, marked or not, whose note and velocity lie in the window
 unfoldable pub in_window : Window → PlayerRecord → Bool

@@ -1,15 +1,9 @@
 -- The rules of the session's list, on the records in use in their order.
-use Rattle.std.specs.Prelude.{ℕ, zero, suc, ◌-◌, Bool, true, false, not, ◌||◌, List, [], ◌∷◌, ◌++◌, map, length, ◌==◌, nat_le, nat_lt}
-use mathlib.Core.List.{foldl}
-use Rattle.session.specs.declared.Limit.{Limit}
-use Rattle.session.specs.declared.Limit.TheVariants.{Unlimited, Most}
+use Rattle.std.specs.Prelude.{ℕ, zero, suc, ◌-◌, Bool, not, List, [], ◌∷◌, ◌++◌, map, length, ◌==◌, nat_le, nat_lt, None, Option, Some, cond, filter, count_by, if◌then◌else◌}
+use Rattle.std.specs.List.{reduce}
 use Rattle.session.specs.declared.PlayerRecord.{PlayerRecord}
-use Rattle.session.specs.declared.Sharing.{Sharing}
-use Rattle.session.specs.declared.Sharing.TheVariants.{Note, Region}
 use Rattle.session.specs.declared.Start.{Start}
-use Rattle.session.specs.declared.Victim.{Victim}
-use Rattle.session.specs.declared.Victim.TheVariants.{Nobody, Sounding}
-use Rattle.session.specs.Lists.{pick, keep, change_if, change_where, change_first}
+use Rattle.session.specs.Lists.{change_if, change_where, change_first}
 use Rattle.session.specs.Records.{marked, ended, collected, entered, choked_by, shares_note, may_yield, of_region, is_sister, quieter, older, of_voice, in_slots, waits}
 
 -- ---- what a starting region marks
@@ -26,41 +20,14 @@ choke st rs = change_where (choked_by st) (marked st.at) rs
 unfoldable pub mark_sisters : ℕ → ℕ → ℕ → List PlayerRecord → List PlayerRecord
 mark_sisters v b at rs = change_where (is_sister v b) (marked at) rs
 
--- the lower of the best so far and the record r; where neither is lower, the best so far, which stands earlier
-unfoldable pub lower_of : (PlayerRecord → PlayerRecord → Bool) → Victim → PlayerRecord → Victim
-lower_of lower Nobody r = Sounding r
-lower_of lower (Sounding b) r = pick (lower r b) (Sounding r) (Sounding b)
-
--- r is looked at where p holds of it
-unfoldable pub look_at : (PlayerRecord → Bool) → (PlayerRecord → PlayerRecord → Bool) → Victim → PlayerRecord → Victim
-look_at p lower best r = pick (p r) (lower_of lower best r) best
-
 -- among the records that p holds of, the lowest; of several the earliest in the list
-abbrev pub lowest : (PlayerRecord → Bool) → (PlayerRecord → PlayerRecord → Bool) → List PlayerRecord → Victim
-lowest p lower rs = foldl (look_at p lower) Nobody rs
-
--- how many records p holds of
-abbrev pub count_of : (PlayerRecord → Bool) → List PlayerRecord → ℕ
-count_of p rs = length (keep p rs)
-
--- the records that a limit counts, those among them that may be marked, and which of two is marked first: of those that share the
--- start's group and note, and of those that have its region
-abbrev pub sharing : Sharing → Start → PlayerRecord → Bool
-sharing Note st = shares_note st
-sharing Region st = of_region st
-
-abbrev pub yielding : Sharing → Start → PlayerRecord → Bool
-yielding Note st = may_yield st
-yielding Region st = of_region st
-
-abbrev pub going_first : Sharing → PlayerRecord → PlayerRecord → Bool
-going_first Note = quieter
-going_first Region = older
+abbrev pub lowest : (PlayerRecord → Bool) → (PlayerRecord → PlayerRecord → Bool) → List PlayerRecord → Option PlayerRecord
+lowest p lower rs = reduce (λ best r. if lower r best then r else best) (filter p rs)
 
 -- where none qualifies the list stays as it is; else it goes on with the one found
-abbrev pub or_stop : Victim → List PlayerRecord → (PlayerRecord → List PlayerRecord) → List PlayerRecord
-or_stop Nobody rs f = rs
-or_stop (Sounding c) rs f = f c
+abbrev pub or_stop : Option PlayerRecord → List PlayerRecord → (PlayerRecord → List PlayerRecord) → List PlayerRecord
+or_stop None rs f = rs
+or_stop (Some c) rs f = f c
 
 -- k times: among those no louder than the new note the lowest velocity, then the lowest start, then the earliest in the list, is
 -- marked with all unmarked records of its voice and start. It stops where none qualifies.
@@ -71,15 +38,15 @@ yield_up st (suc k) rs =
 
 -- a limit of 0 acts as 1
 abbrev pub at_least_one : ℕ → ℕ
-at_least_one n = pick (n == 0) 1 n
+at_least_one n = cond (n == 0) 1 n
 
 -- how often the count falls by one until no more than n - 1 are left
 abbrev pub surplus_of : ℕ → ℕ → ℕ
 surplus_of count n = count - (at_least_one n - 1)
 
-abbrev pub limit_note : Limit → Start → List PlayerRecord → List PlayerRecord
-limit_note Unlimited st rs = rs
-limit_note (Most n) st rs = yield_up st (surplus_of (count_of (shares_note st) rs) n) rs
+abbrev pub limit_note : Option ℕ → Start → List PlayerRecord → List PlayerRecord
+limit_note None st rs = rs
+limit_note (Some n) st rs = yield_up st (surplus_of (count_by (shares_note st) rs) n) rs
 
 -- while more than n - 1 unmarked records share group and note, one yields. The count falls by one each time, however many are marked
 unfoldable pub after_note_polyphony : Start → List PlayerRecord → List PlayerRecord
@@ -89,9 +56,9 @@ after_note_polyphony st rs = limit_note st.note_polyphony st rs
 unfoldable pub end_oldest : Start → List PlayerRecord → List PlayerRecord
 end_oldest st rs = or_stop (lowest (of_region st) older rs) rs (λ c. mark_sisters c.voice c.start st.at rs)
 
-abbrev pub limit_region : Limit → Start → List PlayerRecord → List PlayerRecord
-limit_region Unlimited st rs = rs
-limit_region (Most p) st rs = pick (nat_le p (count_of (of_region st) rs)) (end_oldest st rs) rs
+abbrev pub limit_region : Option ℕ → Start → List PlayerRecord → List PlayerRecord
+limit_region None st rs = rs
+limit_region (Some p) st rs = cond (nat_le p (count_by (of_region st) rs)) (end_oldest st rs) rs
 
 -- if at least p unmarked records have this region, the one with the lowest start, likewise
 unfoldable pub polyphony : Start → List PlayerRecord → List PlayerRecord
@@ -101,31 +68,23 @@ polyphony st rs = limit_region st.polyphony st rs
 unfoldable pub start_marks : Start → List PlayerRecord → List PlayerRecord
 start_marks st rs = polyphony st (after_note_polyphony st (choke st rs))
 
--- whether there is a limit, and whether the start has one
-abbrev pub is_limit : Limit → Bool
-is_limit Unlimited = false
-is_limit (Most n) = true
-
-unfoldable pub is_limited : Start → Bool
-is_limited st = is_limit st.note_polyphony || is_limit st.polyphony
-
 -- ---- entering and removing
 
 -- one more record at the end. A list of 512 stays as it is
 unfoldable pub enter : PlayerRecord → List PlayerRecord → List PlayerRecord
-enter r rs = pick (nat_lt (length rs) 512) (rs ++ (r ∷ [])) rs
+enter r rs = cond (nat_lt (length rs) 512) (rs ++ (r ∷ [])) rs
 
 -- what a starting region marks, and then, where its voice has room, its record in this slot at the end
 unfoldable pub start_one : Start → Bool → ℕ → List PlayerRecord → List PlayerRecord
-start_one st room slot rs = pick room (enter (entered st slot) (start_marks st rs)) (start_marks st rs)
+start_one st room slot rs = cond room (enter (entered st slot) (start_marks st rs)) (start_marks st rs)
 
 -- without the voice's records, the others in their order
 unfoldable pub without_voice : ℕ → List PlayerRecord → List PlayerRecord
-without_voice v rs = keep (λ r. not (of_voice v r)) rs
+without_voice v rs = filter (λ r. not (of_voice v r)) rs
 
 -- without the voice's records in these slots, the others in their order
 unfoldable pub without_slots : ℕ → List ℕ → List PlayerRecord → List PlayerRecord
-without_slots v ks rs = keep (λ r. not (in_slots v ks r)) rs
+without_slots v ks rs = filter (λ r. not (in_slots v ks r)) rs
 
 -- ---- a voice's own off times
 
@@ -143,4 +102,4 @@ mark_ended v ks rs = change_where (in_slots v ks) ended rs
 
 -- the slots of the voice's records, in list order
 abbrev pub slots_of : ℕ → List PlayerRecord → List ℕ
-slots_of v rs = map (λ r. r.slot) (keep (of_voice v) rs)
+slots_of v rs = map (λ r. r.slot) (filter (of_voice v) rs)

@@ -1,9 +1,6 @@
 -- The session as a whole: its list of records in use, and the session with another list.
-use Rattle.std.specs.Prelude.{ℕ, ◌+◌, ◌-◌, ◌%◌, ◌^◌, Bool, false, not, ◌&&◌, List, [], ◌∷◌, ◌++◌, length, take, replicate, pos, ◌==◌, nat_le, nat_lt, slice_index, slice_set}
+use Rattle.std.specs.Prelude.{ℕ, ◌+◌, ◌-◌, ◌%◌, ◌^◌, Bool, false, not, ◌&&◌, List, [], ◌∷◌, ◌++◌, length, take, replicate, pos, ◌==◌, nat_le, nat_lt, slice_index, slice_set, None, Some, cond, filter}
 use mathlib.Core.List.{foldl}
-use Rattle.session.specs.declared.Limit.TheVariants.{Unlimited}
-use Rattle.session.specs.declared.OffBy.TheVariants.{Nobody}
-use Rattle.session.specs.declared.OffAt.TheVariants.{Never}
 use Rattle.session.specs.declared.PlayerRecord.{PlayerRecord}
 use Rattle.session.specs.declared.Sequences.{Sequences}
 use Rattle.session.specs.declared.LiveVoices.{LiveVoices}
@@ -12,7 +9,7 @@ use Rattle.session.specs.declared.Slots.{Slots}
 use Rattle.session.specs.declared.Start.{Start}
 use Rattle.session.specs.declared.Starts.{Starts}
 use Rattle.session.specs.declared.Opened.{Opened}
-use Rattle.session.specs.Lists.{pick, keep, used_of, packed}
+use Rattle.session.specs.Lists.{used_of, packed}
 use Rattle.session.specs.Rules.{start_one, without_voice}
 
 -- the records in use, in order: the session's list
@@ -21,14 +18,7 @@ view s = take (used_of 512 s.count) s.players
 
 -- the session with other record places and another count
 abbrev pub with_players : List PlayerRecord → ℕ → Session → Session
-with_players rs n s = record {
-  players = rs;
-  count = n;
-  seq = s.seq;
-  voices = s.voices;
-  event_serial = s.event_serial;
-  held = s.held;
-}
+with_players rs n s = record s { players = rs; count = n }
 
 -- the session with this list of records; each place behind them, and all else, as it was
 abbrev pub relist : List PlayerRecord → Session → Session
@@ -54,8 +44,8 @@ pub record Starting : Type 0 where
 abbrev pub start_with : Bool → Start → Starting → Starting
 start_with room st x = record {
   session = relist (start_one st room x.slot (view x.session)) x.session;
-  held = pick room (x.held + 1) x.held;
-  slot = pick room ((x.slot + 1) % 2 ^ 32) x.slot;
+  held = cond room (x.held + 1) x.held;
+  slot = cond room ((x.slot + 1) % 2 ^ 32) x.slot;
 }
 
 -- a voice that holds 32 has no room
@@ -72,14 +62,14 @@ no_start = record {
   voice = 0;
   region = 0;
   group = pos 0;
-  off_by = Nobody;
+  off_by = None;
   note = 0;
   vel = 0;
   on_note = false;
   serial = 0;
   at = 0;
-  note_polyphony = Unlimited;
-  polyphony = Unlimited;
+  note_polyphony = None;
+  polyphony = None;
 }
 
 -- ---- the live voices
@@ -93,14 +83,7 @@ abbrev pub relive : List ℕ → ℕ → LiveVoices → LiveVoices
 relive is next v = record { ids = packed is v.ids; count = length is; next_voice = next }
 
 abbrev pub with_voices : LiveVoices → Session → Session
-with_voices v s = record {
-  players = s.players;
-  count = s.count;
-  seq = s.seq;
-  voices = v;
-  event_serial = s.event_serial;
-  held = s.held;
-}
+with_voices v s = record s { voices = v }
 
 -- fewer than sixteen are live, and the next id is not above 2^63
 abbrev pub has_place : LiveVoices → Bool
@@ -110,28 +93,21 @@ has_place v = nat_lt v.count 16 && nat_le v.next_voice (2 ^ 63)
 unfoldable pub placed : LiveVoices → LiveVoices
 placed v = relive (live_ids v ++ (v.next_voice ∷ [])) (v.next_voice + 1) v
 
--- a new voice takes the next id and a place; ids only rise, so that none is given again. Without a place nothing changes, and the
--- id told is 0, which no voice has
+-- a new voice takes the next id and a place; ids only rise, so that none is given again. Without a place nothing changes, and no
+-- id is told
 unfoldable pub opened : Session → Opened
 opened s =
-    pick (has_place s.voices) (record { session = with_voices (placed s.voices) s; id = s.voices.next_voice })
-    (record { session = s; id = 0 })
+    cond (has_place s.voices) (record { session = with_voices (placed s.voices) s; id = Some s.voices.next_voice })
+    (record { session = s; id = None })
 
 -- the voice's place is free; the others keep their order, and the next id stays
 unfoldable pub freed : ℕ → LiveVoices → LiveVoices
-freed id v = relive (keep (λ x. not (x == id)) (live_ids v)) v.next_voice v
+freed id v = relive (filter (λ x. not (x == id)) (live_ids v)) v.next_voice v
 
 -- ---- sequences, the event serial and the held gates
 
 abbrev pub with_seq : Sequences → Session → Session
-with_seq q s = record {
-  players = s.players;
-  count = s.count;
-  seq = q;
-  voices = s.voices;
-  event_serial = s.event_serial;
-  held = s.held;
-}
+with_seq q s = record s { seq = q }
 
 -- the counter c stands at the position, counted from 1, of a sequence of this length. A length of 0 has no position
 abbrev pub seq_hit : ℕ → ℕ → ℕ → Bool
@@ -146,24 +122,10 @@ seq_stepped r len at q = record {
 }
 
 abbrev pub with_serial : ℕ → Session → Session
-with_serial n s = record {
-  players = s.players;
-  count = s.count;
-  seq = s.seq;
-  voices = s.voices;
-  event_serial = n;
-  held = s.held;
-}
+with_serial n s = record s { event_serial = n }
 
 abbrev pub with_held : ℕ → Session → Session
-with_held n s = record {
-  players = s.players;
-  count = s.count;
-  seq = s.seq;
-  voices = s.voices;
-  event_serial = s.event_serial;
-  held = n;
-}
+with_held n s = record s { held = n }
 
 -- one event more, at 64 bits
 abbrev pub serial_up : Session → Session
@@ -181,7 +143,7 @@ held_down s = with_held (s.held - 1) s
 
 -- its records leave the list, and its gate, where it was held, is held no more
 unfoldable pub ended_voice : ℕ → Bool → Session → Session
-ended_voice v gate s = pick gate (held_down (relist (without_voice v (view s)) s)) (relist (without_voice v (view s)) s)
+ended_voice v gate s = cond gate (held_down (relist (without_voice v (view s)) s)) (relist (without_voice v (view s)) s)
 
 -- the same, and its place is free for a new voice
 unfoldable pub closed_voice : ℕ → Bool → Session → Session
@@ -195,13 +157,13 @@ no_record = record {
   slot = 0;
   region = 0;
   group = pos 0;
-  off_by = Nobody;
+  off_by = None;
   note = 0;
   vel = 0;
   on_note = false;
   start = 0;
   offed = false;
-  off_at = Never;
+  off_at = None;
 }
 
 -- no record, no live voice, the first id 1, every counter 0 and every flag down

@@ -2,35 +2,13 @@
 // is what chokes and polyphony limits act on. Voices stand above it and rely on these promises alone.
 #![tactic(auto)]
 
-ghost use Rattle.std.specs.Prelude.{◌≡◌, ◌≤◌, true, false, not, [], length, drop, slice_index_or};
-ghost use Rattle.session.specs.Lists.{used_of, keep, elem, twice};
-ghost use Rattle.session.specs.Records.{marked, ended, collected, entered, same_z, off_by_is, shares_both, choked_by, shares_note, may_yield, of_region, is_sister, quieter, older, of_voice, in_slots, waits, in_window};
-ghost use Rattle.session.specs.Rules.{choke, choke_one, mark_sisters, lower_of, look_at, lowest, count_of, surplus_of, after_note_polyphony, polyphony, start_marks, is_limit, is_limited, enter, without_voice, without_slots, sharing, yielding, going_first, yield_up, end_oldest, mark_ended};
-ghost use Rattle.session.specs.Offs.{off_of, add_off, offs_of, collected_offs, took_first, first_at};
-ghost use Rattle.session.specs.Removal.{stays};
+ghost use Rattle.std.specs.Prelude.{◌≡◌, true, false, not, Bool, [], length, slice_get, slice_index_or, filter, count_by, position};
+ghost use Rattle.session.specs.Lists.{used_of, elem, twice, packed, AnswersAs};
+ghost use Rattle.session.specs.Records.{marked, ended, collected, entered, shares_both, choked_by, shares_note, may_yield, of_region, is_sister, quieter, older, of_voice, in_slots, waits, in_window};
+ghost use Rattle.session.specs.Rules.{choke, choke_one, mark_sisters, lowest, surplus_of, after_note_polyphony, polyphony, start_marks, enter, without_voice, without_slots, yield_up, end_oldest, mark_ended, collect, collect_first};
+ghost use Rattle.session.specs.Offs.{off_of, off_times, add_off, offs_of, collected_offs, took_first};
 ghost use Rattle.session.specs.Tests.{is_live, over_live, twice_live, stray_record, over_records, over_voice, over_held, region_outside, slots_in_order, attack_playing};
 ghost use Rattle.session.specs.State.{view, relist, no_start, start_list, started_many, slot_list, live_ids, with_voices, opened, freed, with_seq, seq_stepped, seq_hit, serial_up, held_up, held_down, ended_voice, closed_voice, no_record, fresh_session, has_place, placed};
-
-// A group that turns a record off, or none.
-#[derive(Clone, Copy)]
-pub enum OffBy {
-    Nobody,
-    Group(i32),
-}
-
-// The absolute sample time at which a pending off takes effect, or none.
-#[derive(Clone, Copy)]
-pub enum OffAt {
-    Never,
-    At(u64),
-}
-
-// A polyphony limit, or none.
-#[derive(Clone, Copy)]
-pub enum Limit {
-    Unlimited,
-    Most(u32),
-}
 
 // One sounding region of some voice, as the program's other voices see it. The small fields stand together, so that a record takes 56
 // bytes and not 64: it is copied often (docs/SPEED.md).
@@ -40,13 +18,13 @@ pub struct PlayerRecord {
     pub slot: u32,
     pub region: u32,
     pub group: i32,
-    pub off_by: OffBy,
+    pub off_by: Option<i32>,
     pub note: u8,
     pub vel: u8,
     pub on_note: bool,
     pub offed: bool,
     pub start: u64,
-    pub off_at: OffAt,
+    pub off_at: Option<u64>,
 }
 
 // For each region its sequence counter, and whether its position was hit at the last note-on of a key in its range.
@@ -56,7 +34,8 @@ pub struct Sequences {
     pub seq_on: [bool; 256],
 }
 
-// The ids of the live voices, and the next id.
+// The ids of the live voices, and the next id. A list is an array with its count beside it, here and in each type below: memory is fixed,
+// and there is no heap.
 #[derive(Clone, Copy)]
 pub struct LiveVoices {
     pub ids: [u64; 16],
@@ -80,14 +59,14 @@ pub struct Start {
     pub voice: u64,
     pub region: u32,
     pub group: i32,
-    pub off_by: OffBy,
+    pub off_by: Option<i32>,
     pub note: u8,
     pub vel: u8,
     pub on_note: bool,
     pub serial: u64,
     pub at: u64,
-    pub note_polyphony: Limit,
-    pub polyphony: Limit,
+    pub note_polyphony: Option<u32>,
+    pub polyphony: Option<u32>,
 }
 
 // The starts of one event, in turn.
@@ -133,31 +112,18 @@ pub struct Collected {
     pub offs: Offs,
 }
 
-#[derive(Drop)]
-pub enum FirstOff {
-    Nothing,
-    Taken(Off),
-}
-
 // A session, and the first off time that a voice has taken from it.
 #[derive(Drop)]
 pub struct Took {
     pub session: Session,
-    pub first: FirstOff,
+    pub first: Option<Off>,
 }
 
-// A session with a new voice, and its id.
+// A session, with a new voice and its id where one had a place.
 #[derive(Drop)]
 pub struct Opened {
     pub session: Session,
-    pub id: u64,
-}
-
-// What a search for a record to turn off finds.
-#[derive(Drop)]
-pub enum Victim {
-    Nobody,
-    Sounding(PlayerRecord),
+    pub id: Option<u64>,
 }
 
 // ---- one record
@@ -166,118 +132,70 @@ pub enum Victim {
 fn mark(r: PlayerRecord, at: u64) -> PlayerRecord
     ensures { result ≡ marked at r }
 {
-    let off_by = r.off_by;
-    let off_at = OffAt::At(at);
     PlayerRecord {
-        voice: r.voice,
-        slot: r.slot,
-        region: r.region,
-        group: r.group,
-        off_by: off_by,
-        note: r.note,
-        vel: r.vel,
-        on_note: r.on_note,
-        start: r.start,
         offed: true,
-        off_at: off_at,
-    }
-}
-
-fn same_group(a: i32, b: i32) -> bool
-    ensures { result ≡ same_z a b }
-{
-    a == b
-}
-
-fn off_by_is(o: OffBy, group: i32) -> bool
-    ensures { result ≡ off_by_is o group }
-{
-    match o {
-        OffBy::Nobody => false,
-        OffBy::Group(g) => same_group(g, group),
+        off_at: Some(at),
+        ..r
     }
 }
 
 // Whether the record has both the start's group and its note.
+#[tactic(auto, unfolding(crate::specs::Records::shares_both))]
 fn shares_both(r: PlayerRecord, st: Start) -> bool
     ensures { result ≡ shares_both st r }
 {
-    if !same_group(r.group, st.group) {
-        return false;
-    }
-    r.note == st.note
+    r.group == st.group && r.note == st.note
 }
 
 // Whether the start chokes the record.
+#[tactic(auto, unfolding(crate::specs::Records::choked_by))]
 fn choked_by(r: PlayerRecord, st: Start) -> bool
     ensures { result ≡ choked_by st r }
 {
-    if r.offed {
-        return false;
-    }
-    if !r.on_note {
-        return false;
-    }
-    let by = r.off_by;
-    if !off_by_is(by, st.group) {
-        return false;
-    }
-    !shares_both(r, st)
+    !r.offed && r.on_note && r.off_by == Some(st.group) && !shares_both(r, st)
 }
 
 // The record once the start is there: marked where the start chokes it.
+#[tactic(auto, unfolding(crate::specs::Rules::choke_one))]
 pub fn choke_one(r: PlayerRecord, st: Start) -> PlayerRecord
     ensures { result ≡ choke_one st r }
 {
-    if choked_by(r, st) {
-        return mark(r, st.at);
-    }
-    r
+    if choked_by(r, st) { mark(r, st.at) } else { r }
 }
 
 // Whether the record is unmarked and shares group and note with the start.
+#[tactic(auto, unfolding(crate::specs::Records::shares_note))]
 fn shares_note(r: PlayerRecord, st: Start) -> bool
     ensures { result ≡ shares_note st r }
 {
-    if r.offed {
-        return false;
-    }
-    shares_both(r, st)
+    !r.offed && shares_both(r, st)
 }
 
 // Whether it is so, and no louder than the new note.
+#[tactic(auto, unfolding(crate::specs::Records::may_yield))]
 fn may_yield(r: PlayerRecord, st: Start) -> bool
     ensures { result ≡ may_yield st r }
 {
-    if !shares_note(r, st) {
-        return false;
-    }
-    r.vel <= st.vel
+    shares_note(r, st) && r.vel <= st.vel
 }
 
 // Whether the record is unmarked and has the start's region.
+#[tactic(auto, unfolding(crate::specs::Records::of_region))]
 fn of_region(r: PlayerRecord, st: Start) -> bool
     ensures { result ≡ of_region st r }
 {
-    if r.offed {
-        return false;
-    }
-    r.region == st.region
+    !r.offed && r.region == st.region
 }
 
 // Whether the record is unmarked and has this voice and start.
+#[tactic(auto, unfolding(crate::specs::Records::is_sister))]
 fn is_sister(r: PlayerRecord, voice: u64, start: u64) -> bool
     ensures { result ≡ is_sister voice start r }
 {
-    if r.offed {
-        return false;
-    }
-    if r.voice != voice {
-        return false;
-    }
-    r.start == start
+    !r.offed && r.voice == voice && r.start == start
 }
 
+#[tactic(auto, unfolding(crate::specs::Records::older))]
 fn is_older(a: PlayerRecord, b: PlayerRecord) -> bool
     ensures { result ≡ older a b }
 {
@@ -285,42 +203,184 @@ fn is_older(a: PlayerRecord, b: PlayerRecord) -> bool
 }
 
 // Whether `a` has the lower velocity, or the same and the lower start.
+#[tactic(auto, unfolding(crate::specs::Records::quieter, crate::specs::Records::older))]
 fn is_quieter(a: PlayerRecord, b: PlayerRecord) -> bool
     ensures { result ≡ quieter a b }
 {
-    if a.vel < b.vel {
-        return true;
-    }
-    if b.vel < a.vel {
-        return false;
-    }
-    is_older(a, b)
+    (a.vel, a.start) < (b.vel, b.start)
 }
 
-// ---- what a starting region marks
+// ---- what is in use of the arrays
 
-// How many places of the list are in use: the count, but never past the array.
-fn used(count: usize) -> usize
-    ensures { result ≡ used_of 512 count }
+// How many places of an array of N are in use: the count, but never past the array.
+pub fn used<const N: usize>(count: usize) -> usize
+    ensures { result ≡ used_of N count }
 {
-    if count < 512 { count } else { 512 }
+    count.min(N)
 }
+
+impl Session {
+    // The records in use, in order.
+    fn records(&self) -> &[PlayerRecord]
+        ensures { result.now ≡ view self.now }
+    {
+        let n = used::<512>(self.count);
+        &self.players[..n]
+    }
+}
+
+impl Starts {
+    // The starts in use, in order.
+    fn as_slice(&self) -> &[Start]
+        ensures { result.now ≡ start_list self.now }
+    {
+        let n = used::<256>(self.count);
+        &self.starts[..n]
+    }
+}
+
+impl Slots {
+    // The slots in use, in order.
+    fn as_slice(&self) -> &[u32]
+        ensures { result.now ≡ slot_list self.now }
+    {
+        let n = used::<32>(self.count);
+        &self.slots[..n]
+    }
+}
+
+impl LiveVoices {
+    // The ids of the live voices, in the order of their making.
+    fn as_slice(&self) -> &[u64]
+        ensures { result.now ≡ live_ids self.now }
+    {
+        let n = used::<16>(self.count);
+        &self.ids[..n]
+    }
+}
+
+// ---- what a starting region marks, in place on the records in use
+//
+// The walks that change records are three lines each: one over closures for the test and the change would be no plainer, for its
+// clauses would have to say what either answers.
 
 // Marks each record that the start chokes.
+pub fn choke(records: &mut [PlayerRecord], st: Start)
+    ensures { records.new ≡ choke st records.old }
+{
+    for r in records {
+        if choked_by(*r, st) {
+            *r = mark(*r, st.at);
+        }
+    }
+}
+
+// Marks each unmarked record of the voice and the start.
+fn mark_sisters(records: &mut [PlayerRecord], voice: u64, start: u64, at: u64)
+    ensures { records.new ≡ mark_sisters voice start at records.old }
+{
+    for r in records {
+        if is_sister(*r, voice, start) {
+            *r = mark(*r, at);
+        }
+    }
+}
+
+// Among the records no louder than the new note the quietest, then the oldest; of several the earliest in the list.
+fn quietest(records: &[PlayerRecord], st: Start) -> Option<PlayerRecord>
+    ensures { result ≡ lowest (may_yield st) quieter records.now }
+{
+    records
+        .iter()
+        .copied()
+        .filter(|r| may_yield(*r, st))
+        .reduce(|best, r| if is_quieter(r, best) { r } else { best })
+}
+
+// Among the records of the region the oldest; of several the earliest in the list.
+fn oldest(records: &[PlayerRecord], st: Start) -> Option<PlayerRecord>
+    ensures { result ≡ lowest (of_region st) older records.now }
+{
+    records
+        .iter()
+        .copied()
+        .filter(|r| of_region(*r, st))
+        .reduce(|best, r| if is_older(r, best) { r } else { best })
+}
+
+// How many have to go so that one more keeps to the limit, 0 acting as 1.
+fn surplus(count: usize, limit: u32) -> usize
+    ensures { result ≡ surplus_of count limit }
+{
+    count.saturating_sub((limit as usize).max(1) - 1)
+}
+
+// As often as `rounds` says one record yields, with its sisters, until none may.
+fn yield_up(records: &mut [PlayerRecord], st: Start, rounds: usize)
+    ensures { records.new ≡ yield_up st rounds records.old }
+{
+    for round in 0..rounds {
+        let Some(c) = quietest(records, st) else {
+            return;
+        };
+        mark_sisters(records, c.voice, c.start, st.at);
+    }
+}
+
+// Note polyphony.
+#[tactic(auto, unfolding(crate::specs::Rules::after_note_polyphony))]
+fn limit_note(records: &mut [PlayerRecord], st: Start)
+    ensures { records.new ≡ after_note_polyphony st records.old }
+{
+    if let Some(n) = st.note_polyphony {
+        let count = records.iter().filter(|r| shares_note(**r, st)).count();
+        yield_up(records, st, surplus(count, n));
+    }
+}
+
+// Marks the oldest record of the region with its sisters.
+#[tactic(auto, unfolding(crate::specs::Rules::end_oldest))]
+fn end_oldest(records: &mut [PlayerRecord], st: Start)
+    ensures { records.new ≡ end_oldest st records.old }
+{
+    if let Some(old) = oldest(records, st) {
+        mark_sisters(records, old.voice, old.start, st.at);
+    }
+}
+
+// Polyphony by region.
+#[tactic(auto, unfolding(crate::specs::Rules::polyphony))]
+fn limit_region(records: &mut [PlayerRecord], st: Start)
+    ensures { records.new ≡ polyphony st records.old }
+{
+    if let Some(p) = st.polyphony {
+        let count = records.iter().filter(|r| of_region(**r, st)).count();
+        if p as usize <= count {
+            end_oldest(records, st);
+        }
+    }
+}
+
+// What a starting region, dropped or not, marks: the choke, then note polyphony, then polyphony by region.
+#[tactic(auto, unfolding(crate::specs::Rules::start_marks))]
+fn mark_start(records: &mut [PlayerRecord], st: Start)
+    ensures { records.new ≡ start_marks st records.old }
+{
+    choke(records, st);
+    limit_note(records, st);
+    limit_region(records, st);
+}
+
+// ---- the same of a session
+
 pub fn choke_all(s: Session, st: Start) -> Session
     ensures { result ≡ relist (choke st (view s)) s }
 {
-    let n = used(s.count);
+    let n = used::<512>(s.count);
     let mut t = s;
     t.count = n;
-    let mut i: usize = 0;
-    while i < n {
-        let r = t.players[i];
-        if choked_by(r, st) {
-            t.players[i] = mark(r, st.at);
-        }
-        i += 1;
-    }
+    let (records, _) = t.players.split_at_mut(n);
+    choke(records, st);
     t
 }
 
@@ -328,204 +388,30 @@ pub fn choke_all(s: Session, st: Start) -> Session
 pub fn off_with_sisters(s: Session, voice: u64, start: u64, at: u64) -> Session
     ensures { result ≡ relist (mark_sisters voice start at (view s)) s }
 {
-    let n = used(s.count);
+    let n = used::<512>(s.count);
     let mut t = s;
     t.count = n;
-    let mut i: usize = 0;
-    while i < n {
-        let r = t.players[i];
-        if is_sister(r, voice, start) {
-            t.players[i] = mark(r, at);
-        }
-        i += 1;
-    }
+    let (records, _) = t.players.split_at_mut(n);
+    mark_sisters(records, voice, start, at);
     t
 }
 
-// What the records that a limit is about share with the start: group and note, or the region.
-#[derive(Clone, Copy)]
-enum Sharing {
-    Note,
-    Region,
-}
-
-// Whether the limit counts the record.
-fn shares(r: PlayerRecord, st: Start, by: Sharing) -> bool
-    ensures { result ≡ sharing by st r }
+// The same in place: a call that takes a session copies it.
+fn mark_for(s: &mut Session, st: Start)
+    ensures { s.new ≡ relist (start_marks st (view s.old)) s.old }
 {
-    match by {
-        Sharing::Note => shares_note(r, st),
-        Sharing::Region => of_region(r, st),
-    }
+    let n = used::<512>(s.count);
+    s.count = n;
+    let (records, _) = s.players.split_at_mut(n);
+    mark_start(records, st);
 }
 
-// Whether the limit may mark the record.
-fn yields(r: PlayerRecord, st: Start, by: Sharing) -> bool
-    ensures { result ≡ yielding by st r }
-{
-    match by {
-        Sharing::Note => may_yield(r, st),
-        Sharing::Region => of_region(r, st),
-    }
-}
-
-// Whether the limit marks `a` rather than `b`.
-fn goes_first(a: PlayerRecord, b: PlayerRecord, by: Sharing) -> bool
-    ensures { result ≡ going_first by a b }
-{
-    match by {
-        Sharing::Note => is_quieter(a, b),
-        Sharing::Region => is_older(a, b),
-    }
-}
-
-// The lower of the best so far and the record, the best so far where they tie.
-fn lower_of(best: Victim, r: PlayerRecord, by: Sharing) -> Victim
-    ensures { result ≡ lower_of (going_first by) best r }
-{
-    match best {
-        Victim::Nobody => Victim::Sounding(r),
-        Victim::Sounding(b) => {
-            if goes_first(r, b, by) {
-                Victim::Sounding(r)
-            } else {
-                Victim::Sounding(b)
-            }
-        }
-    }
-}
-
-fn look_at(best: Victim, r: PlayerRecord, st: Start, by: Sharing) -> Victim
-    ensures { result ≡ look_at (yielding by st) (going_first by) best r }
-{
-    if yields(r, st, by) {
-        lower_of(best, r, by)
-    } else {
-        best
-    }
-}
-
-// How many records the limit counts.
-fn count_sharing(s: Session, st: Start, by: Sharing) -> usize
-    ensures { result ≡ count_of (sharing by st) (view s) }
-{
-    let n = used(s.count);
-    let mut i: usize = 0;
-    let mut k: usize = 0;
-    while i < n {
-        let r = s.players[i];
-        i += 1;
-        if shares(r, st, by) {
-            k += 1;
-        }
-    }
-    k
-}
-
-// Among the records that the limit may mark the one that it marks first; of several the earliest in the list.
-fn first_to_go(s: Session, st: Start, by: Sharing) -> Victim
-    ensures { result ≡ lowest (yielding by st) (going_first by) (view s) }
-{
-    let n = used(s.count);
-    let mut best = Victim::Nobody;
-    let mut i: usize = 0;
-    while i < n {
-        let r = s.players[i];
-        best = look_at(best, r, st, by);
-        i += 1;
-    }
-    best
-}
-
-// How many have to go so that one more keeps to the limit, 0 acting as 1.
-fn surplus(count: usize, limit: u32) -> usize
-    ensures { result ≡ surplus_of count limit }
-{
-    let most = limit as usize;
-    if most == 0 {
-        return count;
-    }
-    if count < most {
-        return 0;
-    }
-    count - (most - 1)
-}
-
-// As often as `rounds` says one record yields, with its sisters, until none may.
-fn yield_up(s: Session, st: Start, rounds: usize) -> Session
-    requires { s.count ≤ 512 }
-    ensures { result ≡ relist (yield_up st rounds (view s)) s }
-{
-    let mut left = rounds;
-    let mut t = s;
-    while 0 < left {
-        let v = first_to_go(t, st, Sharing::Note);
-        match v {
-            Victim::Nobody => {
-                return t;
-            }
-            Victim::Sounding(c) => {
-                t = off_with_sisters(t, c.voice, c.start, st.at);
-                left -= 1;
-            }
-        }
-    }
-    t
-}
-
-// Note polyphony.
-fn limit_note(s: Session, st: Start) -> Session
-    requires { s.count ≤ 512 }
-    ensures { result ≡ relist (after_note_polyphony st (view s)) s }
-{
-    let limit = st.note_polyphony;
-    match limit {
-        Limit::Unlimited => s,
-        Limit::Most(n) => {
-            let count = count_sharing(s, st, Sharing::Note);
-            let rounds = surplus(count, n);
-            yield_up(s, st, rounds)
-        }
-    }
-}
-
-// Marks the oldest record of the region with its sisters.
-fn end_oldest(s: Session, st: Start) -> Session
-    requires { s.count ≤ 512 }
-    ensures { result ≡ relist (end_oldest st (view s)) s }
-{
-    let v = first_to_go(s, st, Sharing::Region);
-    match v {
-        Victim::Nobody => s,
-        Victim::Sounding(c) => off_with_sisters(s, c.voice, c.start, st.at),
-    }
-}
-
-// Polyphony by region.
-fn limit_region(s: Session, st: Start) -> Session
-    requires { s.count ≤ 512 }
-    ensures { result ≡ relist (polyphony st (view s)) s }
-{
-    let limit = st.polyphony;
-    match limit {
-        Limit::Unlimited => s,
-        Limit::Most(p) => {
-            let most = p as usize;
-            if count_sharing(s, st, Sharing::Region) < most {
-                return s;
-            }
-            end_oldest(s, st)
-        }
-    }
-}
-
-// What a starting region, dropped or not, marks: the choke, then note polyphony, then polyphony by region.
 pub fn start_marks(s: Session, st: Start) -> Session
     ensures { result ≡ relist (start_marks st (view s)) s }
 {
-    let a = choke_all(s, st);
-    let b = limit_note(a, st);
-    limit_region(b, st)
+    let mut t = s;
+    mark_for(&mut t, st);
+    t
 }
 
 // ---- entering and removing
@@ -534,58 +420,40 @@ pub fn start_marks(s: Session, st: Start) -> Session
 fn entry(st: Start, slot: u32) -> PlayerRecord
     ensures { result ≡ entered st slot }
 {
-    let off_by = st.off_by;
     PlayerRecord {
         voice: st.voice,
-        slot: slot,
+        slot,
         region: st.region,
         group: st.group,
-        off_by: off_by,
+        off_by: st.off_by,
         note: st.note,
         vel: st.vel,
         on_note: st.on_note,
         start: st.serial,
         offed: false,
-        off_at: OffAt::Never,
+        off_at: None,
     }
 }
 
 // One more record at the end of the list, where it has room.
+#[tactic(auto, unfolding(crate::specs::Rules::enter))]
+fn enter(s: &mut Session, r: PlayerRecord)
+    ensures { s.new ≡ relist (enter r (view s.old)) s.old }
+{
+    let n = used::<512>(s.count);
+    s.count = n;
+    if n < 512 {
+        s.players[n] = r;
+        s.count = n + 1;
+    }
+}
+
 pub fn enter_record(s: Session, st: Start, slot: u32) -> Session
     ensures { result ≡ relist (enter (entered st slot) (view s)) s }
 {
-    let n = used(s.count);
-    let r = entry(st, slot);
     let mut t = s;
-    if 512 <= n {
-        t.count = n;
-        return t;
-    }
-    t.players[n] = r;
-    t.count = n + 1;
+    enter(&mut t, entry(st, slot));
     t
-}
-
-// Whether there is a limit.
-fn is_limit(l: Limit) -> bool
-    ensures { result ≡ is_limit l }
-{
-    match l {
-        Limit::Unlimited => false,
-        Limit::Most(_) => true,
-    }
-}
-
-// Whether the start has a limit: without one neither rule of polyphony marks anything.
-fn is_limited(st: Start) -> bool
-    ensures { result ≡ is_limited st }
-{
-    let a = st.note_polyphony;
-    let b = st.polyphony;
-    if is_limit(a) {
-        return true;
-    }
-    is_limit(b)
 }
 
 // An empty place of the starts.
@@ -596,199 +464,98 @@ pub fn no_start() -> Start
         voice: 0,
         region: 0,
         group: 0,
-        off_by: OffBy::Nobody,
+        off_by: None,
         note: 0,
         vel: 0,
         on_note: false,
         serial: 0,
         at: 0,
-        note_polyphony: Limit::Unlimited,
-        polyphony: Limit::Unlimited,
+        note_polyphony: None,
+        polyphony: None,
     }
-}
-
-fn used_starts(count: usize) -> usize
-    ensures { result ≡ used_of 256 count }
-{
-    if count < 256 { count } else { 256 }
 }
 
 // The starts of one event, in turn. The voice holds `held` players, and `slot` is its next slot: each start marks, and where the voice
-// then holds fewer than 32 its record enters in the next slot. One loop within another, in place: a call that takes a session copies
-// it, and a start without limits, the usual one, makes no such call.
+// then holds fewer than 32 its record enters in the next slot. All in place: a call that takes a session copies it.
 pub fn start_many(s: Session, b: Starts, held: usize, slot: u32) -> Session
     ensures { result ≡ started_many (start_list b) held slot s }
 {
-    let n = used_starts(b.count);
     let mut t = s;
     let mut count = held;
     let mut next = slot;
-    let mut i: usize = 0;
-    while i < n {
-        let st = b.starts[i];
-        let m = used(t.count);
-        t.count = m;
-        let mut k: usize = 0;
-        while k < m {
-            let r = t.players[k];
-            if choked_by(r, st) {
-                t.players[k] = mark(r, st.at);
-            }
-            k += 1;
-        }
-        if is_limited(st) {
-            let x = limit_note(t, st);
-            t = limit_region(x, st);
-        }
+    for st in b.as_slice() {
+        mark_for(&mut t, *st);
         if count < 32 {
-            if m < 512 {
-                t.players[m] = entry(st, next);
-                t.count = m + 1;
-            }
+            enter(&mut t, entry(*st, next));
             count += 1;
-            next = std::num::wrapping_add_u32(next, 1);
+            next = next.wrapping_add(1);
         }
-        i += 1;
     }
     t
-}
-
-fn used_slots(count: usize) -> usize
-    ensures { result ≡ used_of 32 count }
-{
-    if count < 32 { count } else { 32 }
-}
-
-// Whether the slot is among the slots.
-fn has_slot(ks: Slots, slot: u32) -> bool
-    ensures { result ≡ elem slot (slot_list ks) }
-{
-    let n = used_slots(ks.count);
-    let mut i: usize = 0;
-    while i < n {
-        if ks.slots[i] == slot {
-            return true;
-        }
-        i += 1;
-    }
-    false
 }
 
 // Whether the record is the voice's, in one of the slots.
-fn in_slots(r: PlayerRecord, voice: u64, ks: Slots) -> bool
-    ensures { result ≡ in_slots voice (slot_list ks) r }
+#[tactic(auto, unfolding(crate::specs::Records::in_slots))]
+fn in_slots(r: PlayerRecord, voice: u64, slots: &[u32]) -> bool
+    ensures { result ≡ in_slots voice slots.now r }
 {
-    if r.voice != voice {
-        return false;
-    }
-    has_slot(ks, r.slot)
+    r.voice == voice && slots.contains(&r.slot)
 }
 
-// Which records are removed: all of the voice's, or those in the slots.
-#[derive(Clone, Copy)]
-struct Removal {
-    voice: u64,
-    all: bool,
-    slots: Slots,
-}
-
-fn is_gone(r: PlayerRecord, g: Removal) -> bool
-    ensures { result ≡ not (stays g r) }
+// The elements that stay move up and keep their order: how many there are. By index, since one slice is read and written.
+fn retain<T: Copy, F: Fn(&T) -> bool>(items: &mut [T], stays: F) -> usize
+    requires { F.IsAlwaysCallable stays }
+    ensures { (p : T → Bool) → AnswersAs (F.post stays) p → (items.new ≡ packed (filter p items.old) items.old) × (result ≡ length (filter p items.old)) }
 {
-    let ks = g.slots;
-    if g.all {
-        return r.voice == g.voice;
-    }
-    in_slots(r, g.voice, ks)
-}
-
-// Removes those records; the others move up and keep their order.
-fn remove(s: Session, g: Removal) -> Session
-    ensures { result ≡ relist (keep (stays g) (view s)) s }
-{
-    let mut t = s;
-    let n = used(s.count);
-    let mut i: usize = 0;
-    let mut j: usize = 0;
-    while i < n {
-        let r = t.players[i];
-        i += 1;
-        if !is_gone(r, g) {
-            t.players[j] = r;
-            j += 1;
+    let mut kept = 0;
+    for i in 0..items.len() {
+        let x = items[i];
+        if stays(&x) {
+            items[kept] = x;
+            kept += 1;
         }
     }
-    t.count = j;
-    t
+    kept
 }
 
 // Removes the voice's records.
 pub fn remove_voice(s: Session, voice: u64) -> Session
     ensures { result ≡ relist (without_voice voice (view s)) s }
 {
-    let none = Slots {
-        slots: [0; 32],
-        count: 0,
-    };
-    let g = Removal {
-        voice: voice,
-        all: true,
-        slots: none,
-    };
-    remove(s, g)
+    let n = used::<512>(s.count);
+    let mut t = s;
+    let (records, _) = t.players.split_at_mut(n);
+    t.count = retain(records, |r| r.voice != voice);
+    t
 }
 
 // Removes the voice's records in the slots.
 pub fn remove_slots(s: Session, voice: u64, ks: Slots) -> Session
     ensures { result ≡ relist (without_slots voice (slot_list ks) (view s)) s }
 {
-    let g = Removal {
-        voice: voice,
-        all: false,
-        slots: ks,
-    };
-    remove(s, g)
+    let slots = ks.as_slice();
+    let n = used::<512>(s.count);
+    let mut t = s;
+    let (records, _) = t.players.split_at_mut(n);
+    t.count = retain(records, |r| !in_slots(*r, voice, slots));
+    t
 }
 
 // ---- the live voices
 
-fn used_places(count: usize) -> usize
-    ensures { result ≡ used_of 16 count }
-{
-    if count < 16 { count } else { 16 }
-}
-
-// Whether the id stands among the live ones from the place `from` on.
-fn stands_from(v: LiveVoices, from: usize, id: u64) -> bool
-    ensures { result ≡ elem id (drop from (live_ids v)) }
-{
-    let n = used_places(v.count);
-    let mut i = from;
-    while i < n {
-        if v.ids[i] == id {
-            return true;
-        }
-        i += 1;
-    }
-    false
-}
-
 // Whether the session has a live voice with this id.
+#[tactic(auto, unfolding(crate::specs::Tests::is_live))]
 pub fn is_live(s: Session, id: u64) -> bool
     ensures { result ≡ is_live id s }
 {
-    let v = s.voices;
-    stands_from(v, 0, id)
+    s.voices.as_slice().contains(&id)
 }
 
 // Whether fewer than sixteen voices are live and the next id is within its limit.
 fn has_place(v: LiveVoices) -> bool
     ensures { result ≡ has_place v }
 {
-    if 16 <= v.count {
-        return false;
-    }
-    v.next_voice <= 0x8000_0000_0000_0000
+    v.count < 16 && v.next_voice <= 0x8000_0000_0000_0000
 }
 
 // The next id takes a place.
@@ -806,47 +573,33 @@ fn take_place(v: LiveVoices) -> LiveVoices
 }
 
 // A new voice: its id, and its place among the live ones.
+#[tactic(auto, unfolding(crate::specs::State::opened))]
 pub fn new_voice(s: Session) -> Opened
     ensures { result ≡ opened s }
 {
     let v = s.voices;
     if !has_place(v) {
-        return Opened { session: s, id: 0 };
+        return Opened {
+            session: s,
+            id: None,
+        };
     }
-    let id = v.next_voice;
-    let w = take_place(v);
     let mut t = s;
-    t.voices = w;
-    Opened { session: t, id: id }
-}
-
-fn free(v: LiveVoices, id: u64) -> LiveVoices
-    ensures { result ≡ freed id v }
-{
-    let mut w = v;
-    let n = used_places(v.count);
-    let mut i: usize = 0;
-    let mut j: usize = 0;
-    while i < n {
-        let x = w.ids[i];
-        i += 1;
-        if x != id {
-            w.ids[j] = x;
-            j += 1;
-        }
+    t.voices = take_place(v);
+    Opened {
+        session: t,
+        id: Some(v.next_voice),
     }
-    w.count = j;
-    w
 }
 
 // Frees the voice's place.
 pub fn free_voice(s: Session, id: u64) -> Session
     ensures { result ≡ with_voices (freed id s.voices) s }
 {
-    let v = s.voices;
-    let w = free(v, id);
+    let n = used::<16>(s.voices.count);
     let mut t = s;
-    t.voices = w;
+    let (ids, _) = t.voices.ids.split_at_mut(n);
+    t.voices.count = retain(ids, |x| *x != id);
     t
 }
 
@@ -856,12 +609,10 @@ pub fn free_voice(s: Session, id: u64) -> Session
 fn seq_hit(c: u32, length: u32, position: u32) -> bool
     ensures { result ≡ seq_hit c length position }
 {
-    if length == 0 {
-        return false;
-    }
-    c % length + 1 == position
+    length != 0 && c % length + 1 == position
 }
 
+#[tactic(auto, unfolding(crate::specs::State::seq_stepped))]
 pub fn step_sequence(q: Sequences, region: usize, length: u32, position: u32) -> Sequences
     ensures { result ≡ seq_stepped region length position q }
 {
@@ -870,7 +621,7 @@ pub fn step_sequence(q: Sequences, region: usize, length: u32, position: u32) ->
     }
     let mut t = q;
     let c = t.seq_counter[region];
-    t.seq_counter[region] = std::num::wrapping_add_u32(c, 1);
+    t.seq_counter[region] = c.wrapping_add(1);
     t.seq_on[region] = seq_hit(c, length, position);
     t
 }
@@ -880,60 +631,50 @@ pub fn seq_step(s: Session, region: u32, length: u32, position: u32) -> Session
     ensures { result ≡ with_seq (seq_stepped region length position s.seq) s }
 {
     let q = s.seq;
-    let w = step_sequence(q, region as usize, length, position);
-    let mut t = s;
-    t.seq = w;
-    t
+    Session {
+        seq: step_sequence(q, region as usize, length, position),
+        ..s
+    }
 }
 
 pub fn flag_of(q: Sequences, region: usize) -> bool
     ensures { result ≡ slice_index_or q.seq_on region false }
 {
-    if 256 <= region {
-        return false;
-    }
-    q.seq_on[region]
+    q.seq_on.get(region).copied().unwrap_or(false)
 }
 
 // Whether the region's position was hit at the last note-on of a key in its range.
 pub fn seq_is_on(s: Session, region: u32) -> bool
     ensures { result ≡ slice_index_or s.seq.seq_on region false }
 {
-    let q = s.seq;
-    flag_of(q, region as usize)
+    flag_of(s.seq, region as usize)
 }
 
 // One event more.
 pub fn next_serial(s: Session) -> Session
     ensures { result ≡ serial_up s }
 {
-    let n = std::num::wrapping_add_u64(s.event_serial, 1);
-    let mut t = s;
-    t.event_serial = n;
-    t
+    let n = s.event_serial.wrapping_add(1);
+    Session {
+        event_serial: n,
+        ..s
+    }
 }
 
 // One held gate more.
 pub fn raise_held(s: Session) -> Session
     ensures { result ≡ held_up s }
 {
-    let n = std::num::wrapping_add_u32(s.held, 1);
-    let mut t = s;
-    t.held = n;
-    t
+    let n = s.held.wrapping_add(1);
+    Session { held: n, ..s }
 }
 
 // One held gate less.
 pub fn lower_held(s: Session) -> Session
     ensures { result ≡ held_down s }
 {
-    let n = s.held;
-    let mut t = s;
-    if n == 0 {
-        return t;
-    }
-    t.held = n - 1;
-    t
+    let n = s.held.saturating_sub(1);
+    Session { held: n, ..s }
 }
 
 // The end of all of a voice's notes: its records leave the list, and its gate is held no more.
@@ -960,22 +701,22 @@ fn no_record() -> PlayerRecord
         slot: 0,
         region: 0,
         group: 0,
-        off_by: OffBy::Nobody,
+        off_by: None,
         note: 0,
         vel: 0,
         on_note: false,
         start: 0,
         offed: false,
-        off_at: OffAt::Never,
+        off_at: None,
     }
 }
 
 // A session without records and without voices.
+#[tactic(auto, unfolding(crate::specs::State::fresh_session))]
 pub fn fresh_session() -> Session
     ensures { result ≡ fresh_session }
 {
-    let none = no_record();
-    let players = [none; 512];
+    let players = [no_record(); 512];
     let seq = Sequences {
         seq_counter: [0; 256],
         seq_on: [false; 256],
@@ -986,10 +727,10 @@ pub fn fresh_session() -> Session
         next_voice: 1,
     };
     Session {
-        players: players,
+        players,
         count: 0,
-        seq: seq,
-        voices: voices,
+        seq,
+        voices,
         event_serial: 0,
         held: 0,
     }
@@ -998,32 +739,19 @@ pub fn fresh_session() -> Session
 // ---- a voice's own off times
 
 // Whether the record is the voice's and its off time waits.
+#[tactic(auto, unfolding(crate::specs::Records::waits))]
 pub fn is_waiting(r: PlayerRecord, voice: u64) -> bool
     ensures { result ≡ waits voice r }
 {
-    if r.voice != voice {
-        return false;
-    }
-    let at = r.off_at;
-    match at {
-        OffAt::Never => false,
-        OffAt::At(_) => true,
-    }
+    r.voice == voice && r.off_at.is_some()
 }
 
 fn off_of(r: PlayerRecord) -> Off
     ensures { result ≡ off_of r }
 {
-    let at = r.off_at;
-    match at {
-        OffAt::Never => Off {
-            slot: r.slot,
-            at: 0,
-        },
-        OffAt::At(t) => Off {
-            slot: r.slot,
-            at: t,
-        },
+    Off {
+        slot: r.slot,
+        at: r.off_at.unwrap_or(0),
     }
 }
 
@@ -1031,180 +759,127 @@ fn off_of(r: PlayerRecord) -> Off
 fn clear_off(r: PlayerRecord) -> PlayerRecord
     ensures { result ≡ collected r }
 {
-    let off_by = r.off_by;
-    PlayerRecord {
-        voice: r.voice,
-        slot: r.slot,
-        region: r.region,
-        group: r.group,
-        off_by: off_by,
-        note: r.note,
-        vel: r.vel,
-        on_note: r.on_note,
-        start: r.start,
-        offed: r.offed,
-        off_at: OffAt::Never,
-    }
+    PlayerRecord { off_at: None, ..r }
 }
 
-fn add_off(q: Offs, o: Off) -> Offs
-    ensures { result ≡ add_off o q }
+#[tactic(auto, unfolding(crate::specs::Offs::add_off))]
+fn add_off(q: &mut Offs, o: Off)
+    ensures { q.new ≡ add_off o q.old }
 {
-    let n = q.count;
-    if 32 <= n {
-        return q;
+    if q.count < 32 {
+        q.offs[q.count] = o;
+        q.count += 1;
     }
-    let mut t = q;
-    t.offs[n] = o;
-    t.count = n + 1;
-    t
 }
 
 fn no_offs() -> Offs
     ensures { result ≡ offs_of [] }
 {
-    let none = Off { slot: 0, at: 0 };
-    let offs = [none; 32];
     Offs {
-        offs: offs,
+        offs: [Off { slot: 0, at: 0 }; 32],
         count: 0,
     }
 }
 
 // Takes the off times that wait on the voice's records, in list order.
+fn collect(records: &mut [PlayerRecord], voice: u64) -> Offs
+    ensures taken { records.new ≡ collect voice records.old }
+    ensures offs { result ≡ offs_of (off_times voice records.old) }
+{
+    let mut offs = no_offs();
+    for r in records {
+        if is_waiting(*r, voice) {
+            add_off(&mut offs, off_of(*r));
+            *r = clear_off(*r);
+        }
+    }
+    offs
+}
+
 pub fn collect_offs(s: Session, voice: u64) -> Collected
     ensures { result ≡ collected_offs voice s }
 {
-    let n = used(s.count);
+    let n = used::<512>(s.count);
     let mut t = s;
     t.count = n;
-    let mut offs = no_offs();
-    let mut i: usize = 0;
-    while i < n {
-        let r = t.players[i];
-        if is_waiting(r, voice) {
-            t.players[i] = clear_off(r);
-            offs = add_off(offs, off_of(r));
-        }
-        i += 1;
-    }
-    Collected {
-        session: t,
-        offs: offs,
-    }
+    let (records, _) = t.players.split_at_mut(n);
+    let offs = collect(records, voice);
+    Collected { session: t, offs }
 }
 
-// Where the first of the voice's waiting off times stands; past the list where none waits.
-fn first_waiting(s: Session, voice: u64) -> usize
-    ensures { result ≡ first_at (waits voice) (view s) }
+// Where the first of the voice's waiting off times stands.
+fn first_waiting(records: &[PlayerRecord], voice: u64) -> Option<usize>
+    ensures { result ≡ position (waits voice) records.now }
 {
-    let n = used(s.count);
-    let mut i: usize = 0;
-    while i < n {
-        let r = s.players[i];
-        if is_waiting(r, voice) {
-            return i;
-        }
-        i += 1;
-    }
-    i
+    records.iter().position(|r| is_waiting(*r, voice))
 }
 
 // Takes the first off time that waits on the voice's records.
+#[tactic(auto, unfolding(crate::specs::Rules::collect_first))]
+fn take_first(records: &mut [PlayerRecord], voice: u64) -> Option<Off>
+    ensures taken { records.new ≡ collect_first voice records.old }
+    ensures first { result ≡ slice_get (off_times voice records.old) 0 }
+{
+    let k = first_waiting(records, voice)?;
+    let r = records[k];
+    records[k] = clear_off(r);
+    Some(off_of(r))
+}
+
 pub fn take_first_off(s: Session, voice: u64) -> Took
     ensures { result ≡ took_first voice s }
 {
-    let k = first_waiting(s, voice);
-    let n = used(s.count);
+    let n = used::<512>(s.count);
     let mut t = s;
     t.count = n;
-    if n <= k {
-        return Took {
-            session: t,
-            first: FirstOff::Nothing,
-        };
-    }
-    let r = t.players[k];
-    t.players[k] = clear_off(r);
-    let o = off_of(r);
-    Took {
-        session: t,
-        first: FirstOff::Taken(o),
-    }
+    let (records, _) = t.players.split_at_mut(n);
+    let first = take_first(records, voice);
+    Took { session: t, first }
 }
 
 // The record of a player whose sample has ended.
 fn end_record(r: PlayerRecord) -> PlayerRecord
     ensures { result ≡ ended r }
 {
-    let off_by = r.off_by;
-    let off_at = r.off_at;
-    PlayerRecord {
-        voice: r.voice,
-        slot: r.slot,
-        region: r.region,
-        group: r.group,
-        off_by: off_by,
-        note: r.note,
-        vel: r.vel,
-        on_note: r.on_note,
-        start: r.start,
-        offed: true,
-        off_at: off_at,
-    }
+    PlayerRecord { offed: true, ..r }
 }
 
 // Marks the voice's records in the slots as ended.
+fn end_slots(records: &mut [PlayerRecord], voice: u64, slots: &[u32])
+    ensures { records.new ≡ mark_ended voice slots.now records.old }
+{
+    for r in records {
+        if in_slots(*r, voice, slots) {
+            *r = end_record(*r);
+        }
+    }
+}
+
 pub fn mark_ended(s: Session, voice: u64, ks: Slots) -> Session
     ensures { result ≡ relist (mark_ended voice (slot_list ks) (view s)) s }
 {
-    let n = used(s.count);
+    let n = used::<512>(s.count);
     let mut t = s;
     t.count = n;
-    let mut i: usize = 0;
-    while i < n {
-        let r = t.players[i];
-        if in_slots(r, voice, ks) {
-            t.players[i] = end_record(r);
-        }
-        i += 1;
-    }
+    let (records, _) = t.players.split_at_mut(n);
+    end_slots(records, voice, ks.as_slice());
     t
 }
 
 // Whether the record is a note-on record whose note and velocity lie in the window.
+#[tactic(auto, unfolding(crate::specs::Records::in_window))]
 fn in_window(r: PlayerRecord, w: Window) -> bool
     ensures { result ≡ in_window w r }
 {
-    if !r.on_note {
-        return false;
-    }
-    if r.note < w.lokey {
-        return false;
-    }
-    if w.hikey < r.note {
-        return false;
-    }
-    if r.vel < w.lovel {
-        return false;
-    }
-    r.vel <= w.hivel
+    r.on_note && w.lokey <= r.note && r.note <= w.hikey && w.lovel <= r.vel && r.vel <= w.hivel
 }
 
 // Whether some note-on record, marked or not, has its note and velocity in the window: the attack that a release region asks for.
+#[tactic(auto, unfolding(crate::specs::Tests::attack_playing))]
 pub fn attack_playing(s: Session, w: Window) -> bool
     ensures { result ≡ attack_playing w s }
 {
-    let n = used(s.count);
-    let mut i: usize = 0;
-    while i < n {
-        let r = s.players[i];
-        if in_window(r, w) {
-            return true;
-        }
-        i += 1;
-    }
-    false
+    s.records().iter().any(|r| in_window(*r, w))
 }
 
 // ---- what a session must not be like, each cause by itself
@@ -1217,44 +892,37 @@ pub fn over_live(s: Session) -> bool
     16 < v.count
 }
 
-fn stands_twice(v: LiveVoices) -> bool
-    ensures { result ≡ twice (live_ids v) }
+fn stands_twice(ids: &[u64]) -> bool
+    ensures { result ≡ twice ids.now }
 {
-    let n = used_places(v.count);
-    let mut i: usize = 0;
-    while i < n {
-        let id = v.ids[i];
-        i += 1;
-        if stands_from(v, i, id) {
-            return true;
-        }
+    match ids {
+        [] => false,
+        [id, rest @ ..] => rest.contains(id) || stands_twice(rest),
     }
-    false
 }
 
 // Two live voices with one id.
+#[tactic(auto, unfolding(crate::specs::Tests::twice_live))]
 pub fn twice_live(s: Session) -> bool
     ensures { result ≡ twice_live s }
 {
-    let v = s.voices;
-    stands_twice(v)
+    stands_twice(s.voices.as_slice())
+}
+
+// Whether the record's voice is not among the ids.
+fn is_stray(r: PlayerRecord, ids: &[u64]) -> bool
+    ensures { result ≡ not (elem r.voice ids.now) }
+{
+    !ids.contains(&r.voice)
 }
 
 // A record of a voice not live.
+#[tactic(auto, unfolding(crate::specs::Tests::stray_record))]
 pub fn stray_record(s: Session) -> bool
     ensures { result ≡ stray_record s }
 {
-    let v = s.voices;
-    let n = used(s.count);
-    let mut i: usize = 0;
-    while i < n {
-        let r = s.players[i];
-        if !stands_from(v, 0, r.voice) {
-            return true;
-        }
-        i += 1;
-    }
-    false
+    let ids = s.voices.as_slice();
+    s.records().iter().any(|r| is_stray(*r, ids))
 }
 
 // More than 512 records.
@@ -1265,23 +933,14 @@ pub fn over_records(s: Session) -> bool
 }
 
 // How many records the voice has.
-fn count_voice(s: Session, voice: u64) -> usize
-    ensures { result ≡ count_of (of_voice voice) (view s) }
+fn count_voice(records: &[PlayerRecord], voice: u64) -> usize
+    ensures { result ≡ count_by (of_voice voice) records.now }
 {
-    let n = used(s.count);
-    let mut i: usize = 0;
-    let mut k: usize = 0;
-    while i < n {
-        let r = s.players[i];
-        i += 1;
-        if r.voice == voice {
-            k += 1;
-        }
-    }
-    k
+    records.iter().filter(|r| r.voice == voice).count()
 }
 
 // More than 32 records of one live voice.
+#[tactic(auto, unfolding(crate::specs::Tests::over_voice))]
 pub fn over_voice(s: Session) -> bool
     ensures { result ≡ over_voice s }
 {
@@ -1289,17 +948,11 @@ pub fn over_voice(s: Session) -> bool
     if s.count <= 32 {
         return false;
     }
-    let v = s.voices;
-    let n = used_places(v.count);
-    let mut i: usize = 0;
-    while i < n {
-        let id = v.ids[i];
-        if 32 < count_voice(s, id) {
-            return true;
-        }
-        i += 1;
-    }
-    false
+    let records = s.records();
+    s.voices
+        .as_slice()
+        .iter()
+        .any(|id| 32 < count_voice(records, *id))
 }
 
 // More than sixteen held gates.
@@ -1310,41 +963,30 @@ pub fn over_held(s: Session) -> bool
 }
 
 // A record whose region is outside a program of so many regions.
+#[tactic(auto, unfolding(crate::specs::Tests::region_outside))]
 pub fn region_outside(s: Session, regions: u32) -> bool
     ensures { result ≡ region_outside regions s }
 {
-    let n = used(s.count);
-    let mut i: usize = 0;
-    while i < n {
-        let r = s.players[i];
-        if regions <= r.region {
-            return true;
-        }
-        i += 1;
-    }
-    false
+    s.records().iter().any(|r| regions <= r.region)
 }
 
 // Whether the voice's records are its players' slots, in order.
 pub fn slots_in_order(s: Session, voice: u64, ks: Slots) -> bool
     ensures { result ≡ slots_in_order voice (slot_list ks) s }
 {
-    let n = used(s.count);
-    let m = used_slots(ks.count);
-    let mut i: usize = 0;
-    let mut j: usize = 0;
-    while i < n {
-        let r = s.players[i];
-        i += 1;
+    // `Iterator::eq` of the two leaves open what it says of the lists
+    let slots = ks.as_slice();
+    let mut j = 0;
+    for r in s.records() {
         if r.voice == voice {
-            if m <= j {
+            if slots.len() <= j {
                 return false;
             }
-            if ks.slots[j] != r.slot {
+            if slots[j] != r.slot {
                 return false;
             }
             j += 1;
         }
     }
-    j == m
+    j == slots.len()
 }

@@ -15,11 +15,12 @@
 
 ghost use Rattle.std.specs.Prelude.{◌≤◌, ◌<◌, ◌+◌, length};
 
-use session::{Limit, OffAt, OffBy, PlayerRecord, Session, Slots, Start, Window};
+use session::{PlayerRecord, Session, Slots, Start, Window};
 
 // Standard output.
 const STDOUT_FILENO: i32 = 1;
 
+// What `-` reads as, also in a field that cannot be none: an Option there would need a number beside it.
 const NONE: u64 = 0xFFFF_FFFF_FFFF_FFFF;
 
 #[derive(Drop)]
@@ -45,22 +46,23 @@ struct Progress {
 // ---- reading
 
 fn digits(b: &[u8], at: usize) -> Number
+    requires { at ≤ length b.now }
     ensures { at ≤ result.next }
 {
     let mut v: u64 = 0;
-    let mut i = at;
-    while i < b.len() {
-        let d = b[i];
-        if d < b'0' {
-            return Number { value: v, next: i };
+    for (i, d) in b[at..].iter().enumerate() {
+        if !d.is_ascii_digit() {
+            return Number {
+                value: v,
+                next: at + i,
+            };
         }
-        if b'9' < d {
-            return Number { value: v, next: i };
-        }
-        v = v % 0x1000_0000_0000_0000 * 10 + ((d - b'0') as u64);
-        i += 1;
+        v = v % 0x1000_0000_0000_0000 * 10 + ((*d - b'0') as u64);
     }
-    Number { value: v, next: i }
+    Number {
+        value: v,
+        next: b.len(),
+    }
 }
 
 fn read_number(b: &[u8], at: usize) -> Number
@@ -86,7 +88,7 @@ fn with_field(l: Line, k: usize, value: u64) -> Line {
     m
 }
 
-// The line that begins at `at`.
+// The line that begins at `at`. The cursor jumps behind each number, so that it is no walk over the bytes.
 fn read_line(b: &[u8], at: usize) -> Line
     requires { at < length b.now }
     ensures { at < result.next }
@@ -134,37 +136,28 @@ fn group_of(x: u64) -> i32 {
     (x % 0x8000_0000) as i32
 }
 
-fn off_by_of(x: u64) -> OffBy {
-    if x == NONE {
-        return OffBy::Nobody;
-    }
-    OffBy::Group(group_of(x))
+fn off_by_of(x: u64) -> Option<i32> {
+    (x != NONE).then_some(group_of(x))
 }
 
-fn limit_of(x: u64) -> Limit {
-    if x == NONE {
-        return Limit::Unlimited;
-    }
-    Limit::Most(slot_of(x))
+fn limit_of(x: u64) -> Option<u32> {
+    (x != NONE).then_some(slot_of(x))
 }
 
 fn start_of(l: Line, serial: u64) -> Start {
     let f = l.fields;
-    let off_by = off_by_of(f[4]);
-    let note_polyphony = limit_of(f[9]);
-    let polyphony = limit_of(f[10]);
     Start {
         voice: f[0],
         region: slot_of(f[2]),
         group: group_of(f[3]),
-        off_by: off_by,
+        off_by: off_by_of(f[4]),
         note: byte_of(f[5]),
         vel: byte_of(f[6]),
         on_note: f[7] == 1,
         serial: serial,
         at: f[8],
-        note_polyphony: note_polyphony,
-        polyphony: polyphony,
+        note_polyphony: limit_of(f[9]),
+        polyphony: limit_of(f[10]),
     }
 }
 
@@ -209,11 +202,8 @@ fn start(s: Session, l: Line) -> Session {
 // Takes the voice's off times one by one, as after a rising gate.
 fn take_offs(s: Session, voice: u64) -> Session {
     let mut t = s;
-    let mut k: usize = 0;
-    while k < 40 {
-        let took = session::take_first_off(t, voice);
-        t = took.session;
-        k += 1;
+    for _ in 0..40 {
+        t = session::take_first_off(t, voice).session;
     }
     t
 }
@@ -234,10 +224,8 @@ fn slots_of(l: Line) -> Slots {
         slots: [0; 32],
         count: 0,
     };
-    let mut i: usize = 0;
-    while i < 32 {
+    for i in 0..32 {
         ks.slots[i] = slot_of(f[i + 3]);
-        i += 1;
     }
     ks.count = (f[2] % 64) as usize;
     ks
@@ -277,20 +265,14 @@ fn call(s: Session, l: Line) -> Session {
     let f = l.fields;
     let letter = l.letter;
     match letter {
-        b'V' => {
-            let o = session::new_voice(s);
-            o.session
-        }
+        b'V' => session::new_voice(s).session,
         b'N' => session::raise_held(session::next_serial(s)),
         b'M' => session::next_serial(session::lower_held(s)),
         b'W' => session::next_serial(s),
         b'Q' => session::seq_step(s, slot_of(f[0]), slot_of(f[1]), slot_of(f[2])),
         b'S' => start(s, l),
         b'F' => take_offs(s, f[0]),
-        b'C' => {
-            let c = session::collect_offs(s, f[0]);
-            c.session
-        }
+        b'C' => session::collect_offs(s, f[0]).session,
         b'G' => session::remove_slots(s, f[0], one_slot(f[1])),
         b'X' => session::mark_ended(s, f[0], one_slot(f[1])),
         b'Z' => session::end_voice(s, f[0], f[1] == 1),
@@ -308,11 +290,7 @@ fn put(n: u64) {
 }
 
 fn put_flag(b: bool) {
-    if b {
-        put(1);
-    } else {
-        put(0);
-    }
+    put(b as u64);
 }
 
 fn put_none() {
@@ -325,29 +303,24 @@ fn put_group(g: i32) {
         -1 => {
             io::write_all(STDOUT_FILENO, b",-1");
         }
-        0 => put(0),
-        1 => put(1),
-        2 => put(2),
-        3 => put(3),
-        4 => put(4),
-        5 => put(5),
+        0..=5 => put(g as u64),
         _ => {
             io::write_all(STDOUT_FILENO, b",?");
         }
     }
 }
 
-fn put_off_by(o: OffBy) {
+fn put_off_by(o: Option<i32>) {
     match o {
-        OffBy::Nobody => put_none(),
-        OffBy::Group(g) => put_group(g),
+        None => put_none(),
+        Some(g) => put_group(g),
     }
 }
 
-fn put_off_at(o: OffAt) {
+fn put_off_at(o: Option<u64>) {
     match o {
-        OffAt::Never => put_none(),
-        OffAt::At(t) => put(t),
+        None => put_none(),
+        Some(t) => put(t),
     }
 }
 
@@ -358,27 +331,19 @@ fn put_record(r: PlayerRecord, step: u64) {
     put(r.slot as u64);
     put(r.region as u64);
     put_group(r.group);
-    let off_by = r.off_by;
-    put_off_by(off_by);
+    put_off_by(r.off_by);
     put(r.note as u64);
     put(r.vel as u64);
     put_flag(r.on_note);
     put(r.start);
     put_flag(r.offed);
-    let off_at = r.off_at;
-    put_off_at(off_at);
+    put_off_at(r.off_at);
     io::write_all(STDOUT_FILENO, b"\n");
 }
 
 fn put_records(s: Session, step: u64) {
-    let n = s.count;
-    let mut i: usize = 0;
-    while i < 512 {
-        if i < n {
-            let r = s.players[i];
-            put_record(r, step);
-        }
-        i += 1;
+    for r in s.players.iter().take(s.count) {
+        put_record(*r, step);
     }
 }
 
@@ -438,9 +403,8 @@ fn step(p: Progress, l: Line) -> Progress {
 }
 
 fn replay(b: &[u8]) {
-    let fresh = session::fresh_session();
     let mut p = Progress {
-        session: fresh,
+        session: session::fresh_session(),
         step: 0,
     };
     let mut at: usize = 0;

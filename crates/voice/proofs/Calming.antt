@@ -1,4 +1,5 @@
 -- A block without events leaves what the plain way leaves. Assumes nothing.
+use Rattle.std.specs.List.{list_any}
 use Prim.Native.Nat.{ℕ, ◌-◌, ◌≤◌}
 use mathlib.Core.Path.{◌≡◌, sym, ap, ◌∙◌}
 use mathlib.Core.Bool.{Bool, true, false, not, ◌&&◌}
@@ -12,7 +13,6 @@ use Rattle.players.specs.Mix.{Sounds, Mixture}
 use Rattle.players.specs.Seats.{sounding, is_over, PlayersOk}
 use Rattle.players.specs.declared.Players.{Players}
 use Rattle.players.specs.declared.mix.Tune.{Tune}
-use Rattle.session.specs.Lists.{any}
 use Rattle.session.specs.declared.Session.{Session}
 use Rattle.session.specs.declared.Slots.{Slots}
 use Rattle.events.specs.Voice.{with_players}
@@ -76,7 +76,7 @@ module _ (x : Sounds) (t : Tune) (on : Bool) (amp : List Float) (n : ℕ) (s : S
       (em ∙ ap (λ (z : Tune). calm_part x z on amp v.players n) eu)
 
 -- nothing ended, and nobody is done
-pub stays-as : (e : Slots) (s : Session) (v : SampleVoice) (ps : Players) → PlayersOk ps → e.count ≡ 0 → (over : Bool) → over ≡ any is_over (sounding ps) → not over ≡ true
+pub stays-as : (e : Slots) (s : Session) (v : SampleVoice) (ps : Players) → PlayersOk ps → e.count ≡ 0 → (over : Bool) → over ≡ list_any is_over (sounding ps) → not over ≡ true
     → record { session = s; voice = with_players ps v } ≡ settled e (record { session = s; voice = with_players ps v })
 stays-as e s v ps ok none over told not-over = sym (calm-stays e s (with_players ps v) ok none (sym told ∙ not-true over not-over))
 

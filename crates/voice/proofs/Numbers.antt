@@ -1,11 +1,11 @@
 -- The number of what each call answers is 01's number for what it was handed. Assumes nothing.
+use Rattle.std.specs.Prelude.{cond}
 use Prim.Native.Nat.{ℕ}
 use mathlib.Core.Path.{◌≡◌, refl, ap, ◌∙◌}
 use mathlib.Core.Bool.{Bool, true, false, not}
 use mathlib.Core.List.{[], ◌∷◌}
 use lib.ListN.{length}
 use lib.Ieee.{Float}
-use Rattle.session.specs.Lists.{pick}
 use Rattle.session.specs.declared.Session.{Session}
 use Rattle.program.specs.declared.bind.BoundProgram.{BoundProgram}
 use Rattle.events.specs.declared.SampleVoice.{SampleVoice}
@@ -28,7 +28,7 @@ module _ (rate : Float) (b : BoundProgram) (s : Session) where
   unfolding made make_answer make_number
   make-number = by-case (rate_fits rate) (no_place s) (id_left s)
     where
-      by-case : (x y z : Bool) → number_of (pick x (pick y TooManyVoices (pick z Done TooLate)) BadRate) ≡ first_of ((not x, 5) ∷ (y, 6) ∷ (not z, 9) ∷ [])
+      by-case : (x y z : Bool) → number_of (cond x (cond y TooManyVoices (cond z Done TooLate)) BadRate) ≡ first_of ((not x, 5) ∷ (y, 6) ∷ (not z, 9) ∷ [])
       by-case true true z = refl
       by-case true false true = refl
       by-case true false false = refl
@@ -58,7 +58,7 @@ module _ (l : Lent) (s : Session) (v : SampleVoice) where
       ∙ by-case (parts_fit l.time.frames l.connected (lengths_of l)) (state_fits s v l.words l.samples (length l.pcm) (length l.table))
       (in_time l.time.offset s.event_serial)
     where
-      by-case : (x y z : Bool) → number_of (pick x (pick y (pick z Done TooLate) BadState) BadBlock) ≡ first_of ((not x, 7) ∷ (not y, 8) ∷ (not z, 9) ∷ [])
+      by-case : (x y z : Bool) → number_of (cond x (cond y (cond z Done TooLate) BadState) BadBlock) ≡ first_of ((not x, 7) ∷ (not y, 8) ∷ (not z, 9) ∷ [])
       by-case true true true = refl
       by-case true true false = refl
       by-case true false z = refl
@@ -67,7 +67,7 @@ module _ (l : Lent) (s : Session) (v : SampleVoice) where
   pub block-promise : {r : BlockLeft} → r ≡ blocked l s v → (r ≡ blocked l s v) × (number_of r.called.answer ≡ block_number l s v)
   block-promise e = numbered (λ (x : BlockLeft). x.called.answer) _ block-number e
 
-state-number : (x : Bool) → number_of (pick x Done BadState) ≡ first_of ((not x, 8) ∷ [])
+state-number : (x : Bool) → number_of (cond x Done BadState) ≡ first_of ((not x, 8) ∷ [])
 state-number true = refl
 state-number false = refl
 

@@ -1,14 +1,12 @@
 -- The public calls: their answers, and what each leaves. Definitions only.
-use Rattle.std.specs.Prelude.{ℕ, Bool, false, not, ◌&&◌, List, ◌++◌, length, drop, eqb, Float}
+use Rattle.note.specs.declared.NoteState.{NoteState}
+use Rattle.std.specs.Prelude.{ℕ, Bool, false, not, ◌&&◌, List, ◌++◌, length, drop, eqb, Float, None, Option, Some, cond}
 use Rattle.program.specs.Lookup.{has_release_for}
 use Rattle.program.specs.declared.bind.BoundProgram.{BoundProgram}
 use Rattle.players.specs.Seats.{no_players}
 use Rattle.players.specs.declared.Players.{Players}
-use Rattle.session.specs.Lists.{pick}
 use Rattle.session.specs.State.{opened, ended_voice, closed_voice}
 use Rattle.session.specs.declared.Session.{Session}
-use Rattle.note.specs.declared.MaybeNote.{MaybeNote}
-use Rattle.note.specs.declared.MaybeNote.TheVariants.{Absent, Present}
 use Rattle.events.specs.declared.SampleVoice.{SampleVoice}
 use Rattle.block.specs.Inputs.{Lent}
 use Rattle.block.specs.Block.{played_block}
@@ -50,7 +48,7 @@ fresh_voice id rate b = record {
   program = b;
   gate_prev = false;
   gate_held = false;
-  note = Absent;
+  note = None;
   started = false;
   players = no_players;
   next_slot = 0;
@@ -58,7 +56,7 @@ fresh_voice id rate b = record {
 }
 
 unfoldable pub make_answer : Float → Session → Answer
-make_answer rate s = pick (rate_fits rate) (pick (no_place s) TooManyVoices (pick (id_left s) Done TooLate)) BadRate
+make_answer rate s = cond (rate_fits rate) (cond (no_place s) TooManyVoices (cond (id_left s) Done TooLate)) BadRate
 
 -- a call that is turned back hands out a voice with the id 0, which no session grown from a fresh one gives: ids count from 1
 unfoldable pub made : Float → BoundProgram → Session → Called
@@ -70,9 +68,9 @@ made rate b s =
 
 unfoldable pub block_answer : Lent → Session → SampleVoice → Answer
 block_answer l s v =
-    pick (parts_fit l.time.frames l.connected (lengths_of l))
-    (pick (state_fits s v l.words l.samples (length l.pcm) (length l.table))
-    (pick (in_time l.time.offset s.event_serial) Done TooLate) BadState) BadBlock
+    cond (parts_fit l.time.frames l.connected (lengths_of l))
+    (cond (state_fits s v l.words l.samples (length l.pcm) (length l.table))
+    (cond (in_time l.time.offset s.event_serial) Done TooLate) BadState) BadBlock
 
 -- the block's frames in front; frames that were lent beyond it stay as they were
 abbrev pub over_front : List Float → List Float → List Float
@@ -108,12 +106,12 @@ pub record Program : Type 0 where
   pub table : List Float
 
 unfoldable pub ask_answer : Program → Session → SampleVoice → Answer
-ask_answer k s v = pick (state_fits s v k.words k.samples (length k.pcm) (length k.table)) Done BadState
+ask_answer k s v = cond (state_fits s v k.words k.samples (length k.pcm) (length k.table)) Done BadState
 
 -- a held note may still fire a release region of these words
-abbrev pub may_release : List ℕ → SampleVoice → MaybeNote → Bool
-may_release ws v Absent = false
-may_release ws v (Present n) = v.gate_held && has_release_for ws v.program.regions n.note n.vel
+abbrev pub may_release : List ℕ → SampleVoice → Option NoteState → Bool
+may_release ws v None = false
+may_release ws v (Some n) = v.gate_held && has_release_for ws v.program.regions n.note n.vel
 
 -- it has started, no player sounds, and no release region waits for its gate
 unfoldable pub is_finished : List ℕ → SampleVoice → Bool
@@ -125,7 +123,7 @@ asked k s v = let a = ask_answer k s v in record { answer = a; finished = if_don
 -- ---- reset and close: 8 as far as voice and session alone show it
 
 unfoldable pub end_answer : Session → SampleVoice → Answer
-end_answer s v = pick (well_formed s v) Done BadState
+end_answer s v = cond (well_formed s v) Done BadState
 
 abbrev pub none_sounding : Players → Players
 none_sounding ps = record { players = ps.players; count = 0 }
@@ -138,7 +136,7 @@ silenced v = record {
   program = v.program;
   gate_prev = false;
   gate_held = false;
-  note = Absent;
+  note = None;
   started = false;
   players = none_sounding v.players;
   next_slot = v.next_slot;

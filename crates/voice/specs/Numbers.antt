@@ -1,7 +1,6 @@
 -- 01's number of a call, from what it is handed: its causes in 01's order, each with its number; the first that holds, and 0 where none
 -- does. Definitions only.
-use Rattle.std.specs.Prelude.{ℕ, Bool, not, List, [], ◌∷◌, length, Float}
-use Rattle.session.specs.Lists.{pick}
+use Rattle.std.specs.Prelude.{ℕ, Bool, not, List, [], ◌∷◌, length, Float, cond}
 use Rattle.session.specs.declared.Session.{Session}
 use Rattle.events.specs.declared.SampleVoice.{SampleVoice}
 use Rattle.block.specs.Inputs.{Lent}
@@ -10,7 +9,7 @@ use Rattle.voice.specs.Calls.{Program}
 
 abbrev pub first_of : List (Bool × ℕ) → ℕ
 first_of [] = 0
-first_of (c ∷ cs) = pick c.0 c.1 (first_of cs)
+first_of (c ∷ cs) = cond c.0 c.1 (first_of cs)
 
 -- making a voice: 5, 6, 9 (next id)
 unfoldable pub make_number : Float → Session → ℕ

@@ -15,7 +15,6 @@ use causes::calm::{is_calm, look};
 use causes::check::{in_time, parts_fit, rate_fits, state_fits, well_formed};
 use causes::quiet::{is_quiet, quiet_outputs};
 use events::SampleVoice;
-use note::MaybeNote;
 use players::no_players;
 use program::bind::BoundProgram;
 use program::lookup::has_release_for;
@@ -70,7 +69,7 @@ fn fresh_voice(id: u64, rate: f32, program: BoundProgram) -> SampleVoice
     ensures { result ≡ fresh_voice id rate program }
 {
     let players = no_players();
-    let note = MaybeNote::Absent;
+    let note = None;
     SampleVoice {
         voice: id,
         sample_rate: rate,
@@ -289,8 +288,8 @@ fn may_release(v: SampleVoice, words: &[u32]) -> bool
 {
     let note = v.note;
     match note {
-        MaybeNote::Absent => false,
-        MaybeNote::Present(n) => {
+        None => false,
+        Some(n) => {
             if v.gate_held {
                 has_release_for(words, v.program.regions, n.note, n.vel)
             } else {
@@ -347,7 +346,7 @@ fn silence(v: SampleVoice) -> SampleVoice
     let program = v.program;
     let mut players = v.players;
     players.count = 0;
-    let note = MaybeNote::Absent;
+    let note = None;
     SampleVoice {
         voice: v.voice,
         sample_rate: v.sample_rate,

@@ -1,10 +1,6 @@
 use mathlib.Core.Path.{◌≡◌}
-use Prim.Native.Nat.{◌≤◌, ◌-◌}
 use Rattle.filter.specs.Filter.{Paired, chained}
 use Rattle.filter.proofs.chain.Given as goal
 
 abbrev pub invariant-loop-k : goal.invariant-loop-k
-invariant-loop-k l = (l.k ≤ l.count) × (◌≡◌ {A = Paired} (record { l = l.w.l; r = l.w.r; states = l.states }) (chained l.slots l.stereo l.k (record { l = l.initial.w.l; r = l.initial.w.r; states = l.initial.states })))
-
-abbrev pub decreases-loop-k : goal.decreases-loop-k
-decreases-loop-k l = l.count - l.k
+invariant-loop-k l = ◌≡◌ {A = Paired} (record { l = l.w.l; r = l.w.r; states = l.states }) (chained l.slots l.stereo l.k (record { l = l.initial.w.l; r = l.initial.w.r; states = l.initial.states }))

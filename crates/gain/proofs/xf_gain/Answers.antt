@@ -1,10 +1,10 @@
 use Rattle.gain.specs.Gain.{crossfade_gain}
 use Rattle.gain.proofs.xf_gain.Goals as goal
 
-pub returns-in-NoCrossfade : goal.returns-in-NoCrossfade
+pub returns-in-None : goal.returns-in-None
 unfolding crossfade_gain
-returns-in-NoCrossfade c = rw c.in-NoCrossfade.is
+returns-in-None c = rw c.in-None.is
 
-pub returns-in-Crossfade : goal.returns-in-Crossfade
+pub returns-in-Some : goal.returns-in-Some
 unfolding crossfade_gain
-returns-in-Crossfade c = rw (c.in-Crossfade.is, c.fade_out.ensures, c.fade_in.ensures, c.u32_to_f32-v.ensures)
+returns-in-Some c = rw (c.in-Some.is, c.fade_out.ensures, c.fade_in.ensures, c.u32_to_f32-v.ensures)

@@ -1,8 +1,6 @@
-use Rattle.session.proofs.Yield.{Yielded}
+use Rattle.std.proofs.Common.{◌≡◌, ◌-◌}
+use Rattle.session.specs.Rules.{yield_up}
 use Rattle.session.proofs.yield_up.Given as goal
 
-abbrev pub invariant-loop-left : goal.invariant-loop-left
-invariant-loop-left l = Yielded l.st l.initial.t l.initial.left l.t l.left
-
-abbrev pub decreases-loop-left : goal.decreases-loop-left
-decreases-loop-left l = l.left
+abbrev pub invariant-loop-round : goal.invariant-loop-round
+invariant-loop-round l = yield_up l.st (l.rounds - l.round) l.records ≡ yield_up l.st l.rounds l.initial.records

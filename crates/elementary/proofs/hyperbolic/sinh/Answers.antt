@@ -25,21 +25,17 @@ returns-then-x-3 c = (
   above-last c.args.x (yes c.well_formed.0.1) c.if-x-3.true,
 )
 
-pub float_to_float-y : goal.float_to_float-y
-float_to_float-y c = to-double c.args.x (yes c.well_formed.0.1) (no_nan c.args.x c.if-x.false)
+pub float_to_float-size : goal.float_to_float-size
+float_to_float-size c = to-double c.args.x (yes c.well_formed.0.1) (no_nan c.args.x c.if-x.false)
 
-pub power_up-requires : goal.power_up-requires
+pub invariant_of-size : goal.invariant_of-size
 unfolding of_bits
-power_up-requires c = small-between c.args.x (yes c.well_formed.0.1) (between c.args.x c.if-x.false c.if-x-2.false c.if-x-3.false)
-
-pub power_down-requires : goal.power_down-requires
-unfolding of_bits
-power_down-requires c = small-between c.args.x (yes c.well_formed.0.1) (between c.args.x c.if-x.false c.if-x-2.false c.if-x-3.false)
+invariant_of-size c = record { small = small-between c.args.x (yes c.well_formed.0.1) (between c.args.x c.if-x.false c.if-x-2.false c.if-x-3.false) }
 
 pub returns : goal.returns
 unfolding sinh_of of_bits
 returns c = (
-  rw (number c.args.x c.if-x.false, c.if-x-2.false, c.if-x-3.false, c.narrow.ensures, c.power_down.ensures, c.power_up.ensures),
-  rw (c.narrow.ensures, c.power_down.ensures, c.power_up.ensures)
+  rw (number c.args.x c.if-x.false, c.if-x-2.false, c.if-x-3.false, c.narrow.ensures, c.down.ensures, c.up.ensures),
+  rw (c.narrow.ensures, c.down.ensures, c.up.ensures)
       (sinh-between c.args.x (yes c.well_formed.0.1) (between c.args.x c.if-x.false c.if-x-2.false c.if-x-3.false)),
 )

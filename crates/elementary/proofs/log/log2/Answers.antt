@@ -1,7 +1,7 @@
 use Rattle.std.proofs.Common.{◌≡◌, true, refl}
 use lib.Ieee.{Float, of_bits, neg, div, is_nan, ne}
 use lib.Ieee.Fits.{fits_widens}
-use Rattle.exact.proofs.Narrowing.{no_nan, number, when-nan, to-double}
+use Rattle.exact.proofs.Narrowing.{no_nan, number, when-nan}
 use Rattle.exact.proofs.Integrals.{yes}
 use Rattle.elementary.specs.Functions.{log2_of}
 use Rattle.elementary.proofs.Log2.{at-nan, negative, infinite, ranged, positive-inverts, positive-done, zero-done}
@@ -23,9 +23,6 @@ pub returns-then-x-3 : goal.returns-then-x-3
 unfolding log2_of of_bits div
 returns-then-x-3 c = let x = c.args.x in
     (simp (number x c.if-x.false, c.if-x-2.false, c.if-x-3.true), infinite x (yes c.if-x-3.true))
-
-pub float_to_float-x : goal.float_to_float-x
-float_to_float-x c = to-double c.args.x (yes c.well_formed.0.1) (no_nan c.args.x c.if-x.false)
 
 pub positive-requires : goal.positive-requires
 unfolding of_bits div

@@ -22,7 +22,7 @@ float_from_bits-m c = mantissa-no-nan (to_bits binary64 c.args.x % 4503599627370
 pub nearest_sum-requires : goal.nearest_sum-requires
 nearest_sum-requires c = let b = to_bits binary64 c.args.x in
     let p = parts c.args.x (held c.before) c.requires in
-    record { fact_1 = p.low_end; fact_2 = p.high_end; fact_3 = rw c.fraction.ensures (fraction-solves (mantissa_of b) (mantissa (b % 4503599627370496) (digit c.before))).room }
+    record { least = p.low_end; most = p.high_end; part = rw c.fraction.ensures (fraction-solves (mantissa_of b) (mantissa (b % 4503599627370496) (digit c.before))).room }
 
 pub returns : goal.returns
 unfolding positive_of

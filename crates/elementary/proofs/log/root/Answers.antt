@@ -5,12 +5,6 @@ use Rattle.elementary.proofs.log.root.Goals as goal
 pub loop-w-init : goal.loop-w-init
 loop-w-init c = first c.args.m
 
-pub overflow_add-n : goal.overflow_add-n
-overflow_add-n c = omega (arith, c.loop-w.invariant.room)
-
-pub power_at-requires : goal.power_at-requires
-power_at-requires c = omega (arith, c.loop-w.invariant.room)
-
 pub loop-w-preserved-then-m-power_at : goal.loop-w-preserved-then-m-power_at
 loop-w-preserved-then-m-power_at c = halved c.args.m c.loop-w.k c.loop-w.w c.loop-w.invariant c.loop-w-test.true c.power_at.result c.power_at.ensures c.if-m-power_at.true
 

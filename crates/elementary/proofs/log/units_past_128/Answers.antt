@@ -15,12 +15,12 @@ returns-then-y c = at-nan c.args.y c.if-y.true
 pub float_to_bits-y : goal.float_to_bits-y
 float_to_bits-y c = no_nan _ c.if-y.false
 
-pub returns-then-k-lt35184372088832 : goal.returns-then-k-lt35184372088832
+pub returns-then-k-lt-UNIT : goal.returns-then-k-lt-UNIT
 unfolding units_past128
-returns-then-k-lt35184372088832 c = let y = c.args.y in
-    rw (number y c.if-y.false) (past_is (to_bits binary64 y) c.wrapping_sub_u64-k.result c.if-k-lt35184372088832.true c.wrapping_sub_u64-k.ensures.value)
+returns-then-k-lt-UNIT c = let y = c.args.y in
+    rw (number y c.if-y.false) (past_is (to_bits binary64 y) c.wrapping_sub_u64-k.result c.if-k-lt-UNIT.true c.wrapping_sub_u64-k.ensures.value)
 
-pub returns-else-k-lt35184372088832 : goal.returns-else-k-lt35184372088832
+pub returns-else-k-lt-UNIT : goal.returns-else-k-lt-UNIT
 unfolding units_past128
-returns-else-k-lt35184372088832 c = let y = c.args.y in
-    rw (number y c.if-y.false) (past-none (to_bits binary64 y) c.wrapping_sub_u64-k.result (search rules) c.if-k-lt35184372088832.false c.wrapping_sub_u64-k.ensures.value)
+returns-else-k-lt-UNIT c = let y = c.args.y in
+    rw (number y c.if-y.false) (past-none (to_bits binary64 y) c.wrapping_sub_u64-k.result (search rules) c.if-k-lt-UNIT.false c.wrapping_sub_u64-k.ensures.value)

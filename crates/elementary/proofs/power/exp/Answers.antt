@@ -5,10 +5,10 @@ use Rattle.elementary.specs.Functions.{exp_of}
 use Rattle.elementary.proofs.ExpFn.{power-base}
 use Rattle.elementary.proofs.power.exp.Goals as goal
 
-pub power_by-requires : goal.power_by-requires
+pub invariant_of-base : goal.invariant_of-base
 unfolding of_bits neg
-power_by-requires c = record { sign = tt; from = lit≤ tt; to = lit≤ tt; negative = tt; bottom = lit≤ tt; positive = tt; top = lit≤ tt }
+invariant_of-base c = record { ranged = record { sign = tt; from = lit≤ tt; to = lit≤ tt; negative = tt; bottom = lit≤ tt; positive = tt; top = lit≤ tt } }
 
 pub returns : goal.returns
 unfolding exp_of of_bits neg
-returns c = (c.power_by.ensures, rw c.power_by.ensures (power-base 1442695040888963407 1000000000000000000 17 17 (of_bits binary64 0x3ff71547652b82fe) (neg (of_bits binary32 0x42aeac4f)) (of_bits binary32 0x42b00f33) c.args.x tt (yes c.well_formed.0.1)))
+returns c = (c.power.ensures, rw c.power.ensures (power-base 1442695040888963407 1000000000000000000 17 17 (of_bits binary64 0x3ff71547652b82fe) (neg (of_bits binary32 0x42aeac4f)) (of_bits binary32 0x42b00f33) c.args.x tt (yes c.well_formed.0.1)))

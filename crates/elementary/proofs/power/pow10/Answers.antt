@@ -5,10 +5,10 @@ use Rattle.elementary.specs.Functions.{pow10_of}
 use Rattle.elementary.proofs.ExpFn.{power-base}
 use Rattle.elementary.proofs.power.pow10.Goals as goal
 
-pub power_by-requires : goal.power_by-requires
+pub invariant_of-base : goal.invariant_of-base
 unfolding of_bits neg
-power_by-requires c = record { sign = tt; from = lit≤ tt; to = lit≤ tt; negative = tt; bottom = lit≤ tt; positive = tt; top = lit≤ tt }
+invariant_of-base c = record { ranged = record { sign = tt; from = lit≤ tt; to = lit≤ tt; negative = tt; bottom = lit≤ tt; positive = tt; top = lit≤ tt } }
 
 pub returns : goal.returns
 unfolding pow10_of of_bits neg
-returns c = (c.power_by.ensures, rw c.power_by.ensures (power-base 3321928094887362348 1000000000000000000 18 18 (of_bits binary64 0x400a934f0979a371) (neg (of_bits binary32 0x4217b818)) (of_bits binary32 0x4218ec59) c.args.x tt (yes c.well_formed.0.1)))
+returns c = (c.power.ensures, rw c.power.ensures (power-base 3321928094887362348 1000000000000000000 18 18 (of_bits binary64 0x400a934f0979a371) (neg (of_bits binary32 0x4217b818)) (of_bits binary32 0x4218ec59) c.args.x tt (yes c.well_formed.0.1)))

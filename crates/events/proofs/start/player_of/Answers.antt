@@ -6,4 +6,4 @@ use Rattle.events.proofs.start.player_of.Goals as goal
 
 pub returns : goal.returns
 unfolding player_from
-returns c = (rw (c.start.ensures, c.curve_for-curve.ensures, c.sample_at-sample.ensures), subst PlayerOk (sym c.start.ensures) (started-sound _ _ _ _ _ _ c.requires (omega arith) (let g = c.well_formed.1.1.0.1.1.1.1.1.0 in omega (arith, g.1.1.0))))
+returns c = (rw (c.start.ensures, c.curve_for-curve.ensures, c.sample_at-sample.ensures, c.unwrap_or.ensures), subst PlayerOk (sym c.start.ensures) (started-sound _ _ _ _ _ _ c.requires (omega arith) (let g = c.well_formed.1.1.0.1.1.1.1.1.0 in omega (arith, g.1.1.0))))

@@ -1,31 +1,27 @@
 use Rattle.std.proofs.Common.{ℕ, ◌-◌, ◌*◌, ◌/◌, ◌%◌, ◌^◌, ◌≤◌, sym, subst, arith}
-use Rattle.exact.proofs.Narrowing.{narrow-sub, done-normal, done-inf, done-small, done-zero, shifted_one}
-use Rattle.exact.proofs.format.nearest_quotient.Reads as nearest-quotient-reads
+use Rattle.exact.proofs.Narrowing.{done-normal, done-inf, done-small, done-zero, shifted_one}
 use Rattle.exact.proofs.format.narrow_bits.Goals as goal
-
-pub overflow_sub-result : goal.overflow_sub-result
-overflow_sub-result c = omega (arith, narrow-sub c.args.b (omega arith))
 
 pub nearest_quotient-requires : goal.nearest_quotient-requires
 nearest_quotient-requires c = let both = let e = c.args.b / 4503599627370496 in
     let s = shifted_one e (omega arith) (omega arith) in
-    subst (λ (x : ℕ). (2 ≤ x) × (x ≤ 4611686018427387904)) (sym s.0) (s.1, s.2) in record { fact_1 = both.0; fact_2 = both.1 }
+    subst (λ (x : ℕ). (2 ≤ x) × (x ≤ 4611686018427387904)) (sym s.0) (s.1, s.2) in record { at_least_two = both.0; twice_fits = both.1 }
 
-pub overflow_cast-result-then-b-ge3927138875067072512 : goal.overflow_cast-result-then-b-ge3927138875067072512
-overflow_cast-result-then-b-ge3927138875067072512 c = let b = c.args.b in
+pub overflow_cast-result-then-b-ge-SUBNORMAL : goal.overflow_cast-result-then-b-ge-SUBNORMAL
+overflow_cast-result-then-b-ge-SUBNORMAL c = let b = c.args.b in
     let s = shifted_one (b / 4503599627370496) (omega arith) (omega arith) in
     omega (arith, (done-small b c.nearest_quotient.result (1 * 2 ^ (926 - b / 4503599627370496) % 18446744073709551616) (omega arith) (omega arith) s.0 (omega (arith, s.0, s.3)) c.nearest_quotient.ensures).1)
 
-pub returns-then-q-lt9655287808 : goal.returns-then-q-lt9655287808
-returns-then-q-lt9655287808 c = done-normal c.args.b c.nearest_29-q.result (omega arith) c.nearest_29-q.ensures (omega arith)
+pub returns-then-q : goal.returns-then-q
+returns-then-q c = done-normal c.args.b c.nearest_29-q.result (omega arith) c.nearest_29-q.ensures (omega arith)
 
-pub returns-else-q-lt9655287808 : goal.returns-else-q-lt9655287808
-returns-else-q-lt9655287808 c = done-inf c.args.b c.nearest_29-q.result (omega arith) (omega arith) c.nearest_29-q.ensures (omega arith)
+pub returns-else-q : goal.returns-else-q
+returns-else-q c = done-inf c.args.b c.nearest_29-q.result (omega arith) (omega arith) c.nearest_29-q.ensures (omega arith)
 
-pub returns-then-b-ge3927138875067072512 : goal.returns-then-b-ge3927138875067072512
-returns-then-b-ge3927138875067072512 c = let b = c.args.b in
+pub returns-then-b-ge-SUBNORMAL : goal.returns-then-b-ge-SUBNORMAL
+returns-then-b-ge-SUBNORMAL c = let b = c.args.b in
     let s = shifted_one (b / 4503599627370496) (omega arith) (omega arith) in
     done-small b c.nearest_quotient.result (1 * 2 ^ (926 - b / 4503599627370496) % 18446744073709551616) (omega arith) (omega arith) s.0 (omega (arith, s.0, s.3)) c.nearest_quotient.ensures
 
-pub returns-else-b-ge3927138875067072512 : goal.returns-else-b-ge3927138875067072512
-returns-else-b-ge3927138875067072512 c = done-zero c.args.b (omega arith)
+pub returns-else-b-ge-SUBNORMAL : goal.returns-else-b-ge-SUBNORMAL
+returns-else-b-ge-SUBNORMAL c = done-zero c.args.b (omega arith)

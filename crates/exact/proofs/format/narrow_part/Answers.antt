@@ -8,5 +8,5 @@ float_to_bits-bits c = no_nan c.args.x c.if-x.false
 pub float_from_bits-result : goal.float_from_bits-result
 float_from_bits-result c = small-no-nan c.part_bits.result c.part_bits.ensures.1
 
-pub returns-then-bits-le4607182418800017408 : goal.returns-then-bits-le4607182418800017408
-returns-then-bits-le4607182418800017408 c = done-plus c.args.x c.part_bits.result (subst T (sym c.well_formed.0.1) tt) c.part_bits.ensures.0
+pub returns-then-bits-le-ONE : goal.returns-then-bits-le-ONE
+returns-then-bits-le-ONE c = done-plus c.args.x c.part_bits.result (subst T (sym c.well_formed.0.1) tt) c.part_bits.ensures.0

@@ -1,4 +1,4 @@
-use Rattle.std.proofs.Common.{◌-◌, sym, ap, ◌∙◌, arith, length-set}
+use Rattle.std.proofs.Common.{sym, ap, ◌∙◌, arith, length-set}
 use Rattle.interp.specs.Places.{place_of}
 use Rattle.interp.proofs.Table.{place-fits, split, placed-none, placed-all, placed-more}
 use Rattle.interp.proofs.sinc.places.Goals as goal

@@ -1,20 +1,25 @@
-use Rattle.std.proofs.Common.{◌-◌, refl, ◌∙◌, arith, rules}
-use Rattle.interp.specs.Sinc.{taps}
-use Rattle.interp.proofs.Taps.{more_by, last}
+use Rattle.std.proofs.Common.{refl, ◌∙◌, arith}
+use borrow.Author.Tests.{lt-leb}
+use Rattle.interp.proofs.Taps.{more_by, last, in_window, outside, none_yet}
+use Rattle.interp.proofs.sinc.sinc.Goals.{then-entries-k-le8192, else-entries-k-le8192}
 use Rattle.interp.proofs.sinc.sinc.Goals as goal
 
-pub places-requires : goal.places-requires
-places-requires c = (c.requires.1, search rules, search rules)
-
 pub loop-k-init : goal.loop-k-init
-unfolding taps
-loop-k-init c = (omega arith, refl, c.places.ensures)
-
-pub tap-s-requires : goal.tap-s-requires
-tap-s-requires c = c.requires.0
+loop-k-init g c = (omega arith, λ right. none_yet _ _ _ _ _ _ (c.none-sum.ensures right), c.places.ensures)
 
 pub loop-k-preserved : goal.loop-k-preserved
-loop-k-preserved c = let l = c.loop-k.invariant in let t = c.loop-k-test.true in (omega arith, more_by _ _ _ _ _ _ _ l.1 _ _ _ _ c.tap-s.ensures (l.2.entry _ t) (l.2.part _ t) c.frame_at-x.ensures, l.2)
+loop-k-preserved g c =
+    let l = c.loop-k.invariant in
+    let t = c.loop-k-test.true in
+    let p = l.2 in (
+      omega arith,
+      λ right. elim c.if-entries-k-le8192.branch [
+        | then-entries-k-le8192 w ↦ more_by _ _ _ _ _ _ _ (l.1 right) _ _ _ _ (in_window _ _ _ _ _ w.if-entries-k-le8192.true _ _ (rw (w.sum-is, w.more-sum.ensures right, w.weight-w.ensures)) (rw (w.wsum-is, w.weight-w.ensures))) (p.entry _ t) (p.part _ t) refl
+        | else-entries-k-le8192 w ↦ rw (w.sum-is, w.wsum-is) (more_by _ _ _ _ _ _ _ (l.1 right) _ _ _ _ (outside _ _ _ _ _ (lt-leb _ _ w.if-entries-k-le8192.false)) (p.entry _ t) (p.part _ t) refl)
+      ],
+      p,
+    )
 
 pub returns : goal.returns
-returns c = c.mean.ensures ∙ last _ _ _ _ _ _ _ c.loop-k.invariant.1 c.loop-k.invariant.0 c.loop-k-test.false
+returns g c right =
+    c.mean.ensures right ∙ last _ _ _ _ _ _ _ (c.loop-k.invariant.1 right) c.loop-k.invariant.0 c.loop-k-test.false

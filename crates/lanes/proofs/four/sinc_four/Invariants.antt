@@ -1,12 +1,8 @@
+use mathlib.Core.Bool.{Bool}
 use Prim.Native.Nat.{◌-◌, ◌*◌, ◌≤◌}
-use Rattle.lanes.specs.Four.{Rows, InFrames}
-use Rattle.interp.specs.declared.sinc.SincSpan.{SincSpan}
-use Rattle.lanes.specs.declared.four.Four.{Four}
 use Rattle.lanes.proofs.Rows.{Tapped}
 use Rattle.lanes.proofs.four.sinc_four.Given as goal
 
 abbrev pub invariant-loop-j : goal.invariant-loop-j
-invariant-loop-j l = (1 ≤ l.j) × (l.j ≤ l.h) × ((span : SincSpan) (f : Four) → Rows span f l.entries l.parts (2 * span.half) → InFrames l.n (2 * span.half) l.frames → l.h ≤ span.half → Tapped l.table l.frames span l.n f 1 l.initial.s → Tapped l.table l.frames span l.n f (2 * l.j - 1) l.s)
-
-abbrev pub decreases-loop-j : goal.decreases-loop-j
-decreases-loop-j l = l.h - l.j
+invariant-loop-j g l = (1 ≤ l.j) × (l.j ≤ l.h)
+    × ((right : Bool) → Tapped l.table (g.C.Channels.frames l.channels right) l.fn.span l.n l.fn.f (2 * l.j - 1) (g.C.FourChannels.lanes l.s right))

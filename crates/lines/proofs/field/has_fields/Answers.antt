@@ -1,8 +1,11 @@
-use Rattle.lines.proofs.Splitting.{no_fields, as_many}
+use mathlib.Core.Path.{ap}
+use Rattle.std.proofs.Common.{rules}
+use Rattle.std.proofs.lemmas.Iterator.Splits.{YieldsList-from_slice_split}
+use Rattle.std.proofs.lemmas.Iterator.Consumers.{count_from_yields_List}
+use lib.Dec.{eqb}
+use Rattle.lines.specs.Fields.{has_fields}
 use Rattle.lines.proofs.field.has_fields.Goals as goal
 
-pub returns-then-n-eq0 : goal.returns-then-n-eq0
-returns-then-n-eq0 c = no_fields c.args.line.now c.commas-c.result c.args.n c.commas-c.ensures c.if-n-eq0.true
-
 pub returns : goal.returns
-returns c = as_many c.args.line.now c.commas-c.result c.args.n c.commas-c.ensures c.if-n-eq0.false
+unfolding has_fields
+returns c = ap (λ n. eqb n c.args.n) (count_from_yields_List _ c.count.result c.count.ensures.ran (YieldsList-from_slice_split _ (λ x. eqb x 44) c.args.line.now c.split.ensures.rest c.split.ensures.done c.split.ensures.closure (search rules)))

@@ -17,11 +17,11 @@ loop-k-init c = let s = c.args.p.slots in let n : length s ≡ 6 = c.well_formed
 
 pub returns-then-not-slot_fits : goal.returns-then-not-slot_fits
 unfolding stages_over
-returns-then-not-slot_fits c = let s = c.args.p.slots in let n : 6 ≤ length s = omega (arith, c.loop-k.invariant.1) in sym (ap not (c.loop-k.invariant.2 ∙ fails slot_fits s 6 c.loop-k.k (record { shape = Off }) n c.loop-k-test.true (sym c.slot_fits.ensures ∙ c.if-not-slot_fits.true)))
+returns-then-not-slot_fits c = let s = c.args.p.slots in let n : 6 ≤ length s = omega (arith, c.loop-k.invariant.1) in sym (ap not (c.loop-k.invariant.2 ∙ fails slot_fits s 6 c.loop-k.k Off n c.loop-k-test.true (sym c.slot_fits.ensures ∙ c.if-not-slot_fits.true)))
 
 pub loop-k-preserved : goal.loop-k-preserved
-loop-k-preserved c = let s = c.args.p.slots in let n : 6 ≤ length s = omega (arith, c.loop-k.invariant.1) in (omega arith, c.loop-k.invariant.1, c.loop-k.invariant.2 ∙ passes slot_fits s 6 c.loop-k.k (record { shape = Off }) n c.loop-k-test.true (sym c.slot_fits.ensures ∙ c.if-not-slot_fits.false))
+loop-k-preserved c = let s = c.args.p.slots in let n : 6 ≤ length s = omega (arith, c.loop-k.invariant.1) in (omega arith, c.loop-k.invariant.1, c.loop-k.invariant.2 ∙ passes slot_fits s 6 c.loop-k.k Off n c.loop-k-test.true (sym c.slot_fits.ensures ∙ c.if-not-slot_fits.false))
 
 pub returns : goal.returns
 unfolding stages_over
-returns c = let s = c.args.p.slots in sym (ap not (c.loop-k.invariant.2 ∙ ends slot_fits s 6 c.loop-k.k (record { shape = Off }) c.loop-k-test.false))
+returns c = let s = c.args.p.slots in sym (ap not (c.loop-k.invariant.2 ∙ ends slot_fits s 6 c.loop-k.k Off c.loop-k-test.false))

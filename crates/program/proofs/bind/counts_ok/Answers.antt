@@ -1,26 +1,15 @@
-use Rattle.program.specs.Bind.{indexes, counts_in}
-use Rattle.program.specs.Valid.{every, counts_tests}
-use Rattle.program.proofs.Words.{there, part_length}
-use Rattle.program.proofs.Checks.{fails, passes, ends}
-use native.Mathlib.Nat.{sub-zero}
-use mathlib.Core.List.{map}
-use Prim.Native.Nat.{◌-◌}
-use native.Mathlib.Omega.{arith}
-use borrow.Author.Tests.{not-true, not-false}
-use mathlib.Core.Path.{refl, sym, ap, ◌∙◌}
+use Rattle.std.proofs.Common.{rules, tests, ◌≡◌, ◌/◌, length, refl, arith}
+use Rattle.std.specs.List.{list_all, range_with_len}
+use Rattle.std.proofs.lemmas.Iterator.{YieldsList-from_range}
+use Rattle.std.proofs.lemmas.Iterator.Search.{all_from_yields_List}
+use Rattle.program.specs.Bind.{counts_in, counts_ok}
 use Rattle.program.proofs.bind.counts_ok.Goals as goal
 
-pub loop-i-init : goal.loop-i-init
-loop-i-init c = (omega arith, ap (λ k. every (map (counts_in c.args.words.now) (indexes 0 k))) (sym (sub-zero c.args.n)))
-
-pub counts_in-requires : goal.counts_in-requires
-counts_in-requires c = part_length c.args.words.now c.loop-i.i (omega arith)
-
-pub returns-then-not-counts_in : goal.returns-then-not-counts_in
-returns-then-not-counts_in c = let l = c.loop-i in sym (l.invariant.1 ∙ fails (λ i k. every (map (counts_in c.args.words.now) (indexes i k))) (counts_in c.args.words.now) 1 (λ at. refl) (λ at n. refl) l.i c.args.n l.i c.loop-i-test.true (sym (ap (λ r. every (counts_tests r)) (there c.args.words.now l.i (omega arith))) ∙ sym c.counts_in.ensures ∙ c.if-not-counts_in.true))
-
-pub loop-i-preserved : goal.loop-i-preserved
-loop-i-preserved c = let l = c.loop-i in (omega arith, l.invariant.1 ∙ passes (λ i k. every (map (counts_in c.args.words.now) (indexes i k))) (counts_in c.args.words.now) 1 (λ at. refl) (λ at n. refl) l.i c.args.n l.i c.loop-i-test.true (sym (ap (λ r. every (counts_tests r)) (there c.args.words.now l.i (omega arith))) ∙ sym c.counts_in.ensures ∙ c.if-not-counts_in.false))
-
-pub returns : goal.returns
-returns c = let l = c.loop-i in sym (l.invariant.1 ∙ ends (λ i k. every (map (counts_in c.args.words.now) (indexes i k))) (counts_in c.args.words.now) 1 (λ at. refl) (λ at n. refl) l.i c.args.n l.i c.loop-i-test.false)
+pub returns-then-samples-le-MAX_PARTS : goal.returns-then-samples-le-MAX_PARTS
+unfolding counts_ok
+returns-then-samples-le-MAX_PARTS c =
+    let ws = c.args.words.now in
+    let n = length ws / 392 in
+    let e : c.all.result ≡ list_all (counts_in ws) (range_with_len 0 n) =
+    all_from_yields_List (counts_in ws) _ _ c.all.result c.all.ensures.ran (YieldsList-from_range 0 n n refl (omega arith)) (λ x b q k. search (rules, tests)) in
+    search rules

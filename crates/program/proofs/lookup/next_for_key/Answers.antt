@@ -1,20 +1,18 @@
-use Rattle.program.proofs.Lookups.{next_here, next-later, next-none}
-use Prim.Native.Nat.{◌-◌}
-use native.Mathlib.Omega.{arith}
-use mathlib.Core.Path.{refl, sym, ◌∙◌}
+use Rattle.std.proofs.Common.{rules, tests, ◌≡◌, ◌-◌, filter, find, refl, sym, ◌∙◌}
+use Rattle.std.specs.List.{range_with_len}
+use Rattle.std.proofs.lemmas.Iterator.{YieldsList-from_range}
+use Rattle.std.proofs.lemmas.Iterator.Search.{find_from_yields_List}
+use Rattle.program.specs.Lookup.{holds_key, regions_from, first_of}
+use Rattle.program.proofs.Lookups.{first-kept, same-option}
 use Rattle.program.proofs.lookup.next_for_key.Goals as goal
 
-pub loop-i-init : goal.loop-i-init
-loop-i-init c = refl
-
-pub returns-then-holds_key : goal.returns-then-holds_key
-returns-then-holds_key c = let l = c.loop-i in sym (l.invariant ∙ next_here c.args.words.now c.args.n c.args.key l.i c.loop-i-test.true (sym c.holds_key.ensures ∙ c.if-holds_key.true))
-
-pub overflow_add-i : goal.overflow_add-i
-overflow_add-i c = record { fits = omega (arith, c.ranges.n) }
-
-pub loop-i-preserved : goal.loop-i-preserved
-loop-i-preserved c = let l = c.loop-i in l.invariant ∙ next-later c.args.words.now c.args.n c.args.key l.i c.loop-i-test.true (sym c.holds_key.ensures ∙ c.if-holds_key.false)
-
 pub returns : goal.returns
-returns c = let l = c.loop-i in sym (l.invariant ∙ next-none c.args.words.now c.args.n c.args.key l.i c.loop-i-test.false)
+unfolding regions_from
+returns c =
+    let a = c.args in
+    let p = holds_key a.words.now a.key in
+    let xs = range_with_len a.from (a.n - a.from) in
+    let e : c.find.result ≡ find p xs =
+    sym (same-option c.find.result) ∙ find_from_yields_List p _ _ c.find.result c.find.ensures.ran (YieldsList-from_range a.from a.n (a.n - a.from) refl refl) (λ x b q k. search (rules, tests)) in
+    let f : find p xs ≡ first_of (filter p xs) = first-kept p xs in
+    cc

@@ -1,11 +1,9 @@
-use Rattle.program.specs.Sample.{sample_at}
-use borrow.Author.Tests.{lt-leb, le-leb}
+use Rattle.std.proofs.Common.{ap, ◌∙◌, arith, [], ◌∷◌, get_or}
+use Rattle.program.proofs.Words.{sample-is, copied-or}
 use Rattle.program.proofs.sample.sample_at.Goals as goal
 
-pub returns-then-at-samples : goal.returns-then-at-samples
-unfolding sample_at
-returns-then-at-samples c = simp (le-leb _ _ c.if-at-samples.true) (rw c.float_of.ensures)
-
 pub returns : goal.returns
-unfolding sample_at
-returns c = simp (lt-leb _ _ c.if-at-samples.false)
+returns c =
+    rw c.float_of.ensures (sample-is c.args.samples.now c.args.j c.unwrap_or.result
+    (c.unwrap_or.ensures ∙ copied-or c.copied.result c.get.result (0 ∷ 0 ∷ 0 ∷ 0 ∷ []) c.copied.ensures ∙ c.get.ensures.lookup.4 (omega arith) (0 ∷ 0 ∷ 0 ∷ 0 ∷ [])
+    ∙ ap (λ l. get_or l c.args.j (0 ∷ 0 ∷ 0 ∷ 0 ∷ [])) c.as_chunks.ensures.front))

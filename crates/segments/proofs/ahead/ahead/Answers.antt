@@ -18,13 +18,13 @@ pub overflow_cast-h : goal.overflow_cast-h
 overflow_cast-h c = omega (arith, c.requires.0.half)
 
 pub loop-at-init : goal.loop-at-init
-loop-at-init c = (omega arith, refl, c.place-p.ensures.1, refl, refl, c.requires.4, none-placed _ _ _)
+loop-at-init c = (omega arith, refl, c.place-p.ensures.1, c.requires.4, none-placed _ _ _)
 
 pub overflow_add-at : goal.overflow_add-at
 overflow_add-at c = omega (arith, c.loop-at-test.true)
 
 pub returns-then-m-at : goal.returns-then-m-at
-returns-then-m-at c = c.loop-at.invariant.5
+returns-then-m-at c = c.loop-at.invariant.3
 
 pub nexts-x-requires : goal.nexts-x-requires
 nexts-x-requires c = (subst LoopOk (sym c.looping-lp.ensures) (current-ok _ _ _ c.requires.0.lp), c.loop-at.invariant.2, c.requires.0.step)
@@ -33,10 +33,10 @@ pub inside-requires : goal.inside-requires
 inside-requires c = (c.nexts-x.ensures, c.requires.0.half)
 
 pub four-last-requires : goal.four-last-requires
-four-last-requires c = (c.nexts-x.ensures, c.inside.ensures c.if-inside.true, c.requires.3, omega (arith, c.loop-at-test.true, c.loop-at.invariant.1), c.requires.2, c.loop-at.invariant.3, c.loop-at.invariant.4, c.loop-at.invariant.5, c.loop-at.invariant.6)
+four-last-requires c = (c.nexts-x.ensures, c.inside.ensures c.if-inside.true, c.requires.3, omega (arith, c.loop-at-test.true, c.loop-at.invariant.1), c.requires.2, c.loop-at.invariant.3, c.loop-at.invariant.4)
 
 pub returns-else-inside : goal.returns-else-inside
-returns-else-inside c = c.loop-at.invariant.5
+returns-else-inside c = c.loop-at.invariant.3
 
 pub after-p-requires : goal.after-p-requires
 after-p-requires c = (subst LoopOk (sym c.looping-lp.ensures) (current-ok _ _ _ c.requires.0.lp), c.nexts-x.ensures.p3, c.requires.0.step)
@@ -48,7 +48,7 @@ pub loop-at-smaller : goal.loop-at-smaller
 loop-at-smaller c = omega (arith, c.loop-at-test.true)
 
 pub loop-at-preserved : goal.loop-at-preserved
-loop-at-preserved c = (omega (arith, c.loop-at-test.true, c.loop-at.invariant.1), omega (arith, c.loop-at.invariant.1), c.after-p.ensures, c.four-last.ensures.0, c.four-last.ensures.1, c.four-last.ensures.2, c.four-last.ensures.3)
+loop-at-preserved c = (omega (arith, c.loop-at-test.true, c.loop-at.invariant.1), omega (arith, c.loop-at.invariant.1), c.after-p.ensures, c.four-last.ensures.0, c.four-last.ensures.1)
 
 pub returns : goal.returns
-returns c = c.loop-at.invariant.5
+returns c = c.loop-at.invariant.3

@@ -6,7 +6,7 @@ use Rattle.segments.specs.Ahead.{Kept, Placed}
 use Rattle.segments.proofs.ahead.ahead.Given as goal
 
 abbrev pub invariant-loop-at : goal.invariant-loop-at
-invariant-loop-at l = (l.at ≤ 64) × (l.at % 4 ≡ 0) × Position l.p × (length l.entries ≡ 320) × (length l.parts ≡ 320) × Kept l.cold.span l.cold.stereo (record { a = l.a; b = l.b; table = l.table }) l.qs l.ls l.rs × Placed l.cold.span l.last l.entries l.parts
+invariant-loop-at l = (l.at ≤ 64) × (l.at % 4 ≡ 0) × Position l.p × Kept l.cold.span l.cold.stereo (record { a = l.a; b = l.b; table = l.table }) l.qs l.ls l.rs × Placed l.cold.span l.last l.places.entries l.places.parts
 
 abbrev pub decreases-loop-at : goal.decreases-loop-at
 decreases-loop-at l = 64 - l.at

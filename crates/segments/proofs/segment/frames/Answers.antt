@@ -3,8 +3,8 @@ use Prim.Native.Nat.{◌≤◌}
 use native.Mathlib.Nat.{le_antisymm}
 use native.Mathlib.Numerals.{add-one}
 use native.Mathlib.Omega.{arith}
-use lib.ListN.{length}
-use Rattle.filter.specs.Filter.{pair_ticked, chained}
+use lib.ListN.{length, length-take}
+use Rattle.filter.proofs.First.{chained-first, AllStages-first}
 use Rattle.segments.specs.Segment.{run_for, after_run}
 use Rattle.segments.proofs.Kept.{same_kept, nothing-kept}
 use Rattle.segments.proofs.Resting.{carried, forward}
@@ -62,31 +62,8 @@ returns-then-f c =
     let so_far = carried e.cold e.slots (record { a = e.a.now; b = e.b.now; table = e.table.now }) l.j r.result.next _ _ _ r.ensures.0 l.invariant.4 (r.ensures.3 e.slots l.states e.table.now) in
     (ended _ _ _ _ _ c.next_frame-f.result c.loop-j-2.j refl (c.loop-j-2.invariant.5 _ so_far) c.next_frame-f.ensures.0 _ (omega (arith, c.loop-j-2-test.true, c.chunk_end-stop.ensures.0)) c.if-f.true, c.next_frame-f.ensures.1)
 
-pub overflow_cast-count : goal.overflow_cast-count
-overflow_cast-count c = omega (arith, c.requires.0.filters)
-
-pub loop-k-init : goal.loop-k-init
-unfolding chained
-loop-k-init c = (omega arith, refl)
-
-pub offset_bounds-slots-k : goal.offset_bounds-slots-k
-offset_bounds-slots-k c = omega (arith, c.requires.0.filters)
-
-pub bounds-slots-k : goal.bounds-slots-k
-bounds-slots-k c = omega (arith, c.requires.0.filters)
-
-pub tick_pair-v-requires : goal.tick_pair-v-requires
-tick_pair-v-requires c = (c.requires.1 _, omega (arith, c.requires.0.filters))
-
-pub overflow_step-k : goal.overflow_step-k
-overflow_step-k c = omega (arith, c.requires.0.filters, c.loop-k-test.true)
-
-pub loop-k-smaller : goal.loop-k-smaller
-loop-k-smaller c = omega (arith, c.loop-k-test.true)
-
-pub loop-k-preserved : goal.loop-k-preserved
-unfolding chained
-loop-k-preserved c = (omega (arith, c.loop-k-test.true), rw add-one (c.tick_pair-v.ensures ∙ ap (pair_ticked _ _ _) c.loop-k.invariant.1))
+pub chain-v-requires : goal.chain-v-requires
+chain-v-requires c = let n = length-take c.args.cold.n_filters c.args.slots in (omega (arith, n, c.requires.0.filters), AllStages-first c.args.slots c.args.cold.n_filters c.requires.1)
 
 pub add_at-requires : goal.add_at-requires
 add_at-requires c = omega (arith, c.loop-j-2-test.true, c.loop-j-2.invariant.2, c.chunk_end-stop.ensures.0)
@@ -106,8 +83,8 @@ loop-j-2-smaller c = omega (arith, c.loop-j-2-test.true)
 pub loop-j-2-preserved : goal.loop-j-2-preserved
 loop-j-2-preserved c = let head = c.loop-j-2 in
     let next = c.next_frame-f in
-    let filtered = c.loop-k in
-    (omega (arith, c.loop-j-2-test.true), omega (arith, head.invariant.1), c.add_at.auto.out ∙ head.invariant.2, c.add_at-in-loop-j-2.auto.out ∙ head.invariant.3, next.ensures.1, λ x e. rw (c.add_at.ensures, c.add_at-in-loop-j-2.ensures, c.share_of.ensures, c.share_of-in-loop-j-2.ensures) (more _ _ _ x _ next.result head.j refl (head.invariant.5 x e) next.ensures.0 (record { l = filtered.v.l; r = filtered.v.r; states = filtered.states }) c.if-f.false (rw (le_antisymm filtered.invariant.0 c.loop-k-test.false) at filtered.invariant.1)))
+    let filtered = c.chain-v in
+    (omega (arith, c.loop-j-2-test.true), omega (arith, head.invariant.1), c.add_at.auto.out ∙ head.invariant.2, c.add_at-in-loop-j-2.auto.out ∙ head.invariant.3, next.ensures.1, λ x e. rw (c.add_at.ensures, c.add_at-in-loop-j-2.ensures, c.share_of.ensures, c.share_of-in-loop-j-2.ensures) (more _ _ _ x _ next.result head.j refl (head.invariant.5 x e) next.ensures.0 (record { l = filtered.result.l; r = filtered.result.r; states = filtered.new.states }) c.if-f.false (filtered.ensures ∙ chained-first c.args.slots c.args.cold.n_filters c.args.cold.stereo _ (omega (arith, c.chain-v.array_long, c.requires.0.filters)))))
 
 pub shape_of-out_l : goal.shape_of-out_l
 shape_of-out_l c = c.loop-j.invariant.1

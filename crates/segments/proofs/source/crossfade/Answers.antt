@@ -5,16 +5,16 @@ use Rattle.segments.proofs.Positions.{fade-start}
 use Rattle.segments.proofs.source.crossfade.Goals as goal
 
 pub fade-requires : goal.fade-requires
-fade-requires c = (fade-start _ _ _ _ (subst LoopOk c.in-Present.is c.requires.0) c.requires.1, c.requires.2, c.requires.3)
+fade-requires c = (fade-start _ _ _ _ (subst LoopOk c.in-Some.is c.requires.0) c.requires.1, c.requires.2, c.requires.3)
 
 pub returns-then-in_fade : goal.returns-then-in_fade
 unfolding crossfaded
-returns-then-in_fade c = rw (c.in-Present.is, ← c.in_fade.ensures, c.if-in_fade.true, ← c.fade_of.ensures) c.fade.ensures
+returns-then-in_fade c = rw (c.in-Some.is, ← c.in_fade.ensures, c.if-in_fade.true, ← c.fade_of.ensures) c.fade.ensures
 
-pub returns-in-Absent : goal.returns-in-Absent
+pub returns-in-None : goal.returns-in-None
 unfolding crossfaded
-returns-in-Absent c = rw c.in-Absent.is
+returns-in-None c = rw c.in-None.is
 
 pub returns-else-in_fade : goal.returns-else-in_fade
 unfolding crossfaded
-returns-else-in_fade c = rw (c.in-Present.is, ← c.in_fade.ensures, c.if-in_fade.false)
+returns-else-in_fade c = rw (c.in-Some.is, ← c.in_fade.ensures, c.if-in_fade.false)

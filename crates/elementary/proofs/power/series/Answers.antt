@@ -1,7 +1,0 @@
-use Rattle.std.proofs.Common.{refl}
-use Rattle.elementary.specs.Kernel.{horner_f}
-use Rattle.elementary.proofs.power.series.Goals as goal
-
-pub returns : goal.returns
-unfolding horner_f
-returns c = refl

@@ -1,6 +1,0 @@
-use Rattle.lines.specs.Desk.{block_at}
-use Rattle.lines.proofs.desk.block_at.Goals as goal
-
-pub returns : goal.returns
-unfolding block_at
-returns c = cc

@@ -1,4 +1,0 @@
-use Rattle.program.proofs.check.time_ok.Goals as goal
-
-pub returns : goal.returns
-returns c = cc

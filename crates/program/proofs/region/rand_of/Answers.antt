@@ -1,8 +1,0 @@
-use borrow.Author.Tests.{eq-eqb, ne_eqb}
-use Rattle.program.proofs.region.rand_of.Goals as goal
-
-pub returns-then-present-eq0 : goal.returns-then-present-eq0
-returns-then-present-eq0 c = simp (eq-eqb _ _ c.if-present-eq0.true)
-
-pub returns : goal.returns
-returns c = simp (ne_eqb _ _ c.if-present-eq0.false) (rw (c.float_of-l.ensures, c.float_of-h.ensures))

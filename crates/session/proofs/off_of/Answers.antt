@@ -1,8 +1,0 @@
-use Rattle.std.proofs.Common.{refl}
-use Rattle.session.proofs.off_of.Goals as goal
-
-pub returns-in-Never : goal.returns-in-Never
-returns-in-Never c = rw c.in-Never.is refl
-
-pub returns-in-At : goal.returns-in-At
-returns-in-At c = rw c.in-At.is refl

@@ -1,7 +1,0 @@
-use Rattle.session.proofs.yields.Goals as goal
-
-pub returns-in-Note : goal.returns-in-Note
-returns-in-Note c = rw c.in-Note.is c.may_yield.ensures
-
-pub returns-in-Region : goal.returns-in-Region
-returns-in-Region c = rw c.in-Region.is c.of_region.ensures

@@ -1,8 +1,0 @@
-use Prim.Native.Nat.{◌-◌, ◌≤◌}
-use Rattle.session_replay.proofs.take_offs.Given as goal
-
-abbrev pub invariant-loop-k : goal.invariant-loop-k
-invariant-loop-k l = l.k ≤ 40
-
-abbrev pub decreases-loop-k : goal.decreases-loop-k
-decreases-loop-k l = 40 - l.k
