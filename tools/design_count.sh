@@ -11,11 +11,11 @@ if [ $# -gt 0 ]; then
     cd "$tree"
 fi
 lines() { # lines POINT WHAT PATTERN: how many lines of the sources match
-    n=$(find crates -path '*/src/*' -name '*.rt' -print0 | xargs -0 cat | grep -cE "$3" || true)
+    n=$(find crates/*/src -name '*.rt' -print0 | xargs -0 cat | grep -cE "$3" || true)
     printf '%s  %5d  %s\n' "$1" "$n" "$2"
 }
 heads() { # heads POINT WHAT PATTERN: how many functions have such parameters
-    n=$(find crates -path '*/src/*' -name '*.rt' -print0 | xargs -0 cat | tr '\n' ' ' | grep -oE 'fn [a-z_0-9]+(<[^(]*>)?\([^)]*\)' | grep -cE "$3" || true)
+    n=$(find crates/*/src -name '*.rt' -print0 | xargs -0 cat | tr '\n' ' ' | grep -oE 'fn [a-z_0-9]+(<[^(]*>)?\([^)]*\)' | grep -cE "$3" || true)
     printf '%s  %5d  %s\n' "$1" "$n" "$2"
 }
 lines 1 "variants that mean none or done" '^ +(Nobody|Never|Unlimited|Nothing|Absent|Unlooped|EveryTime|AnyDraw|NoCrossfade|NoCurve|Silence|Done|Unreadable)(\(.*\))?,'
@@ -23,11 +23,11 @@ lines 1 "own Option or Result built or matched" '\b(OffBy|OffAt|Limit|FirstOff|V
 lines 1 "flags with a value beside them" '\b(stereo|placed|stored|silent|done|all|gain_curve|read|fits|over|ok|taken|named|on|present|ignored|waits|connected|yes): bool'
 lines 1 "numbers that mean none" '0x(ffff_ffff|FFFF_FFFF)\b|\bNONE\b|NO_PARTS|-1\.0f64|8193\.0|\bid: 0,|u64::MAX'
 lines 1 "numbers for kinds" '\b(kind|what|mended|letter|form|number|trigger|loop_mode): (u8|u32|u64)\b'
-n=$(find crates -path '*/src/*' -name '*.rt' -print0 | xargs -0 cat | grep -ohE 'fn [a-z0-9_]+' | sed 's/fn //' | sort -u |
+n=$(find crates/*/src -name '*.rt' -print0 | xargs -0 cat | grep -ohE 'fn [a-z0-9_]+' | sed 's/fn //' | sort -u |
     sed -E 's/^(end|inner|is|show|put|biquad)_//; s/_(starts|slots|places|pair|many|all|four|one|f32|f64|u8|u16|u32|u64|usize|i32|i64|mono|both|coeffs|up|down|plus|minus|note|region|[0-9]+)(_.*)?$//' |
     grep -vE '^(rt|fx)_' | sort | uniq -d | wc -l)
 printf '2  %5d  stems of names that two functions share\n' "$n"
-n=$(for f in $(find crates -path '*/src/*' -name '*.rt'); do grep -ohE '^(pub )?fn [a-z_0-9]+' "$f" | sed 's/pub //' | sort -u; done | sort | uniq -d | wc -l)
+n=$(for f in $(find crates/*/src -name '*.rt'); do grep -ohE '^(pub )?fn [a-z_0-9]+' "$f" | sed 's/pub //' | sort -u; done | sort | uniq -d | wc -l)
 printf '2  %5d  names of functions in two files\n' "$n"
 lines 3 "loops" '^\s*('"'"'[a-z]+: )?(while|for|loop)\b'
 lines 3 "while loops" '^\s*while\b'

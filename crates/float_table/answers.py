@@ -124,7 +124,9 @@ with open(os.path.join(here, "src/tables.rt"), "w") as f:
     f.write("// says that the result is this one. answers.py writes this file.\n")
     f.write("use crate::function::Function::{self, Cos, Exp, Exp2, Log2, Pow10, Sin, Sinh};\n")
     f.write("use crate::tolerance::Tolerance::{self, Bound, Part, PowerPart};\n\n")
-    f.write(f"pub const ROWS: [(Function, u32, u32, Option<Tolerance>); {len(rows)}] = [\n")
+    f.write("// A tuple and no struct: a const fn that makes a struct was tried, and a constant takes no call; written out, a row is six lines.\n")
+    f.write("pub type Row = (Function, u32, u32, Option<Tolerance>);\n\n")
+    f.write(f"pub const ROWS: [Row; {len(rows)}] = [\n")
     for k, b, r in rows:
         f.write(f"    ({NAMES[k][0].capitalize()}, {pattern(b)}, {pattern(r)}, {tolerance(k, r)}),\n")
     f.write("];\n")

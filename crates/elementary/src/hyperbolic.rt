@@ -17,7 +17,7 @@ const LAST: f32 = 88.72283172607422;
 pub fn sinh(x: f32) -> f32
     ensures { (result ≡ sinh_of x) × Sinh x result }
 {
-    if x != x {
+    if x.is_nan() {
         return x;
     }
     if x < FIRST {

@@ -66,7 +66,7 @@ fn log_series(one: f64, m: f64) -> f64
 fn units_past_128(y: f64) -> u64
     ensures { result ≡ units_past128 y }
 {
-    if y != y {
+    if y.is_nan() {
         return 0;
     }
     let k = std::num::wrapping_sub_u64(f64::to_bits(y), ONE_TWENTY_EIGHT);
@@ -140,7 +140,7 @@ fn positive(x: f64) -> f32
 pub fn log2(x: f32) -> f32
     ensures { (result ≡ log2_of x) × Log2 x result }
 {
-    if x != x {
+    if x.is_nan() {
         return x;
     }
     if x < 0.0 {

@@ -57,14 +57,11 @@ pub(crate) struct Exponent {
 }
 
 impl Exponent {
-    // The least whole number that is not below y, as the integer that `scale` takes: `y.ceil()` is a double, which had to be cast back.
+    // The least whole number that is not below y, as the integer that `scale` takes.
     fn ceiling(self) -> u64
         ensures { result ≡ ceil (num self.y) (den self.y) }
     {
-        let y = self.y;
-        let n = std::num::truncating_f64_to_u64(y);
-        let whole = n as f64;
-        if whole < y { n + 1 } else { n }
+        std::num::saturating_f64_to_u64(self.y.ceil())
     }
 
     // 2^y
@@ -101,7 +98,7 @@ impl Base {
     fn power(self, x: f32) -> f32
         ensures { result ≡ power_by self.factor self.least self.most x }
     {
-        if x != x {
+        if x.is_nan() {
             return x;
         }
         if x < self.least {

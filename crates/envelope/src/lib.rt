@@ -181,6 +181,8 @@ impl Env {
             .attack_step()
     }
 
+    // A match over the states, one step each: the state is data, copied and compared with the rest, so that a step kept in its place as a
+    // closure would have to be copied and compared too.
     #[tactic(auto, unfolding(crate::specs::Envelope::env_next))]
     pub fn next(self) -> EnvStep
         ensures { result ≡ env_next self }
@@ -280,6 +282,8 @@ impl Env {
     }
 }
 
+// This and the two below share the test of t alone: what each gives where it holds, its formula and, of one, the type are its own, so that
+// one function for them would take a value and a closure for a line each.
 // The factor of an exponential decay or release of t seconds, at least 6 ms: 0 where there is none.
 #[tactic(auto, unfolding(crate::specs::Envelope::exp_rate))]
 pub fn exp_rate(t: f32, sr: f32) -> f32

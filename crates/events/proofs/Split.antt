@@ -1,14 +1,14 @@
 -- The starts of an event part in two: the session's, which need of the voice no more than its id, its next slot and how many players it
 -- has, and the voice's, which need nothing of the session. Assumes nothing.
-use Rattle.std.proofs.Common.{◌≡◌, ℕ, ◌+◌, ◌%◌, ◌^◌, ◌<◌, ◌≤◌, Bool, true, false, ltb, leb, List, [], ◌∷◌, ◌++◌, map, length, get_or, take, set, sym, refl, ap, ◌∙◌, le_antisymm, add-one, arith, take-suc, take-suc-set, ltb-false, ltb-true, le-leb, cond}
-use mathlib.Core.List.{map-append, foldl}
+use Rattle.std.proofs.Common.{◌≡◌, ℕ, ◌+◌, ◌%◌, ◌^◌, ◌<◌, ◌≤◌, Bool, true, false, ltb, leb, List, [], ◌∷◌, length, take, sym, refl, ap, ◌∙◌, le_refl, arith, ltb-false, ltb-true, le-leb, cond}
+use lib.Seq.{take_all}
+use mathlib.Core.List.{foldl}
 use borrow.Author.Tests.{lt-leb}
 use Rattle.player.specs.declared.Player.{Player}
 use Rattle.players.specs.declared.Players.{Players}
 use Rattle.players.specs.Seats.{seated}
 use Rattle.program.specs.Region.{region_at}
 use Rattle.program.specs.declared.region.Region.{Region}
-use Rattle.session.specs.Lists.{used_of}
 use Rattle.session.specs.Records.{entered}
 use Rattle.session.specs.Rules.{start_marks, start_one}
 use Rattle.session.specs.State.{view, relist, Starting, start_with, start_next, started_many}
@@ -16,7 +16,6 @@ use Rattle.session.specs.declared.Session.{Session}
 use Rattle.session.specs.declared.Start.{Start}
 use Rattle.session.proofs.Relist.{view-few}
 use Rattle.session.proofs.Started.{enter-after}
-use Rattle.session.proofs.Walks.{used-small}
 use Rattle.session.proofs.Yield.{length-marks}
 use Rattle.note.specs.declared.NoteState.{NoteState}
 use Rattle.events.specs.declared.SampleVoice.{SampleVoice}
@@ -28,17 +27,9 @@ use Rattle.events.proofs.Kept.{is-dropped, is-joined, region-voice}
 
 -- ---- the session's part
 
--- a loop that stores at each place what f gives there: one place more, and the end
-module _ {A B : Type 0} (f : A → B) (xs : List A) (ys : List B) (i : ℕ) (so_far : take i ys ≡ map f (take i xs)) where
-  pub fill_step : (d : A) (y : B) → i < length xs → i < length ys → y ≡ f (get_or xs i d) → take (i + 1) (set ys i y) ≡ map f (take (i + 1) xs)
-  fill_step d y h k e =
-      ap (λ (n : ℕ). take n (set ys i y)) (add-one i) ∙ take-suc-set ys i y k ∙ ap (λ (l : List B). l ++ (y ∷ [])) so_far
-      ∙ ap (λ (z : B). map f (take i xs) ++ (z ∷ [])) e ∙ sym (map-append f (take i xs) (get_or xs i d ∷ []))
-      ∙ ap (map f) (sym (ap (λ (n : ℕ). take n xs) (add-one i) ∙ take-suc xs i d h))
-
-  pub fill_done : (n k : ℕ) → i ≤ n → n ≤ i → n ≤ 256 → n ≡ k → take (used_of 256 n) ys ≡ map f (take k xs)
-  fill_done n k p q few e =
-      ap (λ (m : ℕ). take m ys) (used-small 256 n few ∙ le_antisymm q p) ∙ so_far ∙ ap (λ (m : ℕ). map f (take m xs)) (le_antisymm p q ∙ e)
+-- the end of a loop that folds a list from left to right
+pub fold_over : {A B : Type 0} (f : B → A → B) (b : B) (xs : List A) (i : ℕ) (best : B) → best ≡ foldl f b (take i xs) → i ≡ length xs → (zs : List A) → xs ≡ zs → best ≡ foldl f b zs
+fold_over f b xs i best so_far e zs g = so_far ∙ ap (foldl f b) (ap (λ (m : ℕ). take m xs) e ∙ take_all (length xs) xs (le_refl _) ∙ g)
 
 -- what the session's starts find
 abbrev seen : Both → Starting
@@ -116,7 +107,3 @@ module _ (k : Kit) (n : NoteState) (c : Cause) (v : SampleVoice) (ps : Players) 
 
   pub voice-drops : 32 ≤ ps.count → q ≡ ps → m ≡ next → e ≡ one_more_dropped d → carried q m e v ≡ started_voice k n c (carried ps next d v) i
   voice-drops h q-is m-is e-is = rw (le-leb 32 ps.count h, q-is, m-is, e-is)
-
--- the two parts together
-pub both-parts : (b : Both) (s : Session) (v : SampleVoice) → s ≡ b.session → v ≡ b.voice → record { session = s; voice = v } ≡ b
-both-parts b s v e f = rw (e, f)

@@ -1,8 +1,6 @@
 -- What the tests of a start tell. Assumes nothing.
-use Rattle.std.proofs.Common.{◌≡◌, ℕ, ◌≤◌, Bool, false, ◌≢◌, List, take, sym, ap, ◌∙◌, le_trans, eq-eqb, ne_eqb, None, Option, Some, cond}
+use Rattle.std.proofs.Common.{◌≡◌, ℕ, ◌≤◌, false, take, sym, ap, ◌∙◌, le_trans}
 use lib.Ieee.{Float}
-use Rattle.program.specs.Curve.{velcurve_at}
-use Rattle.program.specs.declared.region.Region.{Region}
 use Rattle.session.specs.Lists.{used_of}
 use Rattle.session.specs.State.{serial_up}
 use Rattle.session.specs.declared.Session.{Session}
@@ -15,18 +13,7 @@ use Rattle.events.specs.declared.SampleVoice.{SampleVoice}
 use Rattle.events.specs.declared.Both.{Both}
 use Rattle.events.specs.declared.Cause.{Cause}
 use Rattle.events.specs.Voice.{Kit}
-use Rattle.events.specs.Start.{curve_for, started_all, held_for, release_cause, releases_fired, fired_for, dispatched_release}
-
--- the region's velocity curve
-module _ (ws : List ℕ) (x : Region) (i vel : ℕ) where
-  pub curve-none : x.level.velcurve_count ≡ 0 → None ≡ curve_for ws x i vel
-  unfolding curve_for
-  curve-none h = sym (ap (λ (t : Bool). cond t None (Some (velcurve_at ws i vel))) (eq-eqb x.level.velcurve_count 0 h))
-
-  pub curve-some : (g : Float) → x.level.velcurve_count ≢ 0 → g ≡ velcurve_at ws i vel → Some g ≡ curve_for ws x i vel
-  unfolding curve_for
-  curve-some g h e =
-      ap Some e ∙ sym (ap (λ (t : Bool). cond t None (Some (velcurve_at ws i vel))) (ne_eqb x.level.velcurve_count 0 h))
+use Rattle.events.specs.Start.{started_all, held_for, release_cause, releases_fired}
 
 -- where no region is chosen nothing is started
 pub none-started : (k : Kit) (n : NoteState) (c : Cause) (ch : Chosen) (b : Both) → ch.count ≡ 0 → b ≡ started_all k n c (chosen_list ch) b
@@ -46,12 +33,3 @@ module _ (k : Kit) (m : ℕ) (n : NoteState) (at : ℕ) (s : Session) (v : Sampl
       let l : chosen_list ch ≡ chosen_off k.words m n.note n.vel draw t =
       ap chosen_list ch-is ∙ chosen-list _ (le_trans (off-few k.words m n.note n.vel draw t) h) in
       r-is ∙ rw (l, draw-is, held-is, t-is)
-
-module _ (k : Kit) (m at : ℕ) (b : Both) where
-  pub without-note : b.voice.note ≡ None → b ≡ dispatched_release k m at b
-  unfolding dispatched_release
-  without-note e = sym (ap (λ (x : Option NoteState). fired_for k m at x b) e)
-
-  pub with-note : (n : NoteState) → b.voice.note ≡ Some n → (r : Both) → r ≡ releases_fired k m n at b → r ≡ dispatched_release k m at b
-  unfolding dispatched_release
-  with-note n e r r-is = r-is ∙ sym (ap (λ (x : Option NoteState). fired_for k m at x b) e)

@@ -1,7 +1,6 @@
 // Regions start: the Rust's `start_region`, for all those chosen, and its `dispatch_release`.
 ghost use Rattle.std.specs.Prelude.{◌≡◌, ℕ, ◌≤◌, T, List};
 ghost use Rattle.program.specs.Valid.{loop_in_order};
-ghost use Rattle.session.specs.Lists.{used_of};
 ghost use Rattle.session.specs.State.{start_list};
 ghost use Rattle.player.specs.Bounds.{PlayerOk};
 ghost use Rattle.players.specs.Seats.{PlayersOk};
@@ -46,14 +45,11 @@ fn start_of(region: Region, ri: u32, voice: u64, ns: NoteState, c: Cause) -> Sta
 }
 
 // What the region's velocity curve gives at the note's velocity.
+#[tactic(auto, unfolding(crate::specs::Start::curve_for))]
 fn curve_for(words: &[u32], region: Region, ri: u32, vel: u8) -> Option<f32>
     ensures { result ≡ curve_for words.now region ri vel }
 {
-    if region.level.velcurve_count == 0 {
-        return None;
-    }
-    let g = velcurve(words, ri, vel);
-    Some(g)
+    (region.level.velcurve_count != 0).then(|| velcurve(words, ri, vel))
 }
 
 // The player of a region in this slot.
@@ -72,13 +68,12 @@ fn player_of(
 {
     let sample = sample_at(samples, region.sample.unwrap_or(SILENCE));
     let curve = curve_for(words, region, ri, ns.vel);
-    let interp = ns.interp;
     let note = Note {
         note: ns.note,
         vel: ns.vel,
         note_f: ns.note_f,
         seed: ns.seed,
-        interp,
+        interp: ns.interp,
     };
     let event = Event {
         slot,
@@ -92,35 +87,26 @@ fn player_of(
 
 // ---- the regions chosen
 
-// How many places are in use: the count, but never past the array.
-fn used(count: usize) -> usize
-    ensures { result ≡ used_of 256 count }
-{
-    if count < 256 { count } else { 256 }
-}
-
 // One dropped start more.
 fn drop_one(n: u32) -> u32
     ensures { result ≡ one_more_dropped n }
 {
-    if n < 0xffff_ffff { n + 1 } else { n }
+    n.saturating_add(1)
 }
 
 // The starts of the chosen regions, as the session sees them.
 fn starts_of(words: &[u32], chosen: Chosen, id: u64, ns: NoteState, c: Cause) -> Starts
     ensures { start_list result ≡ starts_of words.now id ns c (chosen_list chosen) }
 {
-    let n = used(chosen.count);
-    let none = no_start();
-    let mut starts = [none; 256];
-    let mut i: usize = 0;
-    while i < n {
-        let ri = chosen.regions[i];
-        let region = region_at(words, ri);
-        starts[i] = start_of(region, ri, id, ns, c);
-        i += 1;
+    let regions = chosen.as_slice();
+    let mut starts = [no_start(); 256];
+    for (i, ri) in regions.iter().enumerate() {
+        starts[i] = start_of(region_at(words, *ri), *ri, id, ns, c);
     }
-    Starts { starts, count: n }
+    Starts {
+        starts,
+        count: regions.len(),
+    }
 }
 
 // The session's part of the starts: chokes and polyphony limits first, then the record, where the voice has room. Of the voice it needs
@@ -152,30 +138,27 @@ fn start_players(
     requires { PlayersOk v.players × Bindable words.now }
     ensures { ((s : Session) → result ≡ (started_all (record { words = words.entry.now; samples = samples.now }) ns c (chosen_list chosen) (record { session = s; voice = v })).voice) × PlayersOk result.players }
 {
-    let n = used(chosen.count);
+    let regions = chosen.as_slice();
     let mut ps = v.players;
     let mut next = v.next_slot;
     let mut dropped = v.dropped;
-    let mut i: usize = 0;
-    while i < n {
-        let ri = chosen.regions[i];
+    for ri in regions {
         let at = ps.count;
         if at < 32 {
-            let region = region_at(words, ri);
-            let p = player_of(words, samples, region, ri, ns, c, next, v.sample_rate);
-            ps.players[at] = p;
+            let region = region_at(words, *ri);
+            ps.players[at] = player_of(words, samples, region, *ri, ns, c, next, v.sample_rate);
             ps.count = at + 1;
             next = std::num::wrapping_add_u32(next, 1);
         } else {
             dropped = drop_one(dropped);
         }
-        i += 1;
     }
-    let mut w = v;
-    w.players = ps;
-    w.next_slot = next;
-    w.dropped = dropped;
-    w
+    SampleVoice {
+        players: ps,
+        next_slot: next,
+        dropped,
+        ..v
+    }
 }
 
 // The regions start in turn: in the session, and then in the voice, since neither part looks at what the other has changed.
@@ -199,13 +182,11 @@ pub fn start_all(
 // ---- a note's release regions
 
 // For how long the note was held, in seconds.
+#[tactic(auto, unfolding(crate::specs::Start::held_for))]
 fn held_for(at: u64, on_time: u64, rate: f32) -> f32
     ensures { result ≡ held_for at on_time rate }
 {
-    if at < on_time {
-        return u64_to_f32(0) / rate;
-    }
-    u64_to_f32(at - on_time) / rate
+    u64_to_f32(at.saturating_sub(on_time)) / rate
 }
 
 // Of n regions those that the release of the note `ns` chooses. The event takes a serial, whether a region starts or not. Where none is
@@ -222,30 +203,27 @@ fn fire_releases(
     requires { PlayersOk v.players × Bindable words.now × (n ≤ 256) }
     ensures { (result ≡ releases_fired (record { words = words.entry.now; samples = samples.now }) n ns at (record { session = s; voice = v })) × PlayersOk result.voice.players }
 {
-    let mut t = next_serial(s);
-    let mut w = v;
+    let t = next_serial(s);
     let serial = t.event_serial;
     let draw = rand01(ns.seed, serial, 0);
     let chosen = choose_off(t, words, n, ns.note, ns.vel, draw);
-    if chosen.count != 0 {
-        let held_secs = held_for(at, ns.on_time, v.sample_rate);
-        let c = Cause {
-            serial,
-            on_note: false,
-            at,
-            held_secs,
+    if chosen.count == 0 {
+        return Both {
+            session: t,
+            voice: v,
         };
-        let b = start_all(t, w, words, samples, chosen, ns, c);
-        t = b.session;
-        w = b.voice;
     }
-    Both {
-        session: t,
-        voice: w,
-    }
+    let c = Cause {
+        serial,
+        on_note: false,
+        at,
+        held_secs: held_for(at, ns.on_time, v.sample_rate),
+    };
+    start_all(t, v, words, samples, chosen, ns, c)
 }
 
 // Fires the note's release regions; without a note nothing happens.
+#[tactic(auto, unfolding(crate::specs::Start::dispatched_release))]
 pub fn dispatch_release(
     s: Session,
     v: SampleVoice,
@@ -257,12 +235,11 @@ pub fn dispatch_release(
     requires { PlayersOk v.players × Bindable words.now × (n ≤ 256) }
     ensures { (result ≡ dispatched_release (record { words = words.entry.now; samples = samples.now }) n at (record { session = s; voice = v })) × PlayersOk result.voice.players }
 {
-    let note = v.note;
-    match note {
-        None => Both {
+    let Some(ns) = v.note else {
+        return Both {
             session: s,
             voice: v,
-        },
-        Some(ns) => fire_releases(s, v, words, samples, n, ns, at),
-    }
+        };
+    };
+    fire_releases(s, v, words, samples, n, ns, at)
 }

@@ -1,5 +1,5 @@
 -- Rounding a float to a whole number, over the format and the direction. Assumes nothing.
-use Rattle.std.proofs.Common.{◌≡◌, ℕ, zero, suc, ◌+◌, ◌-◌, ◌*◌, ◌/◌, ◌%◌, ◌^◌, ◌<◌, ◌≤◌, min, Bool, true, false, not, ◌&&◌, T, eqb, ltb, leb, ℤ, pos, negsuc, sym, refl, ap, ◌∙◌, subst, ap₂, le_trans, le_of_eq, lt_of_lt_of_le, le_of_suc-le-suc, lt_of_le_of_lt, le_of_lt, mul-le-mul_right, mod-lt, mul_assoc, mul_comm, div-lt_iff_lt-mul, le_antisymm, lt_of_mul-lt-mul_right, mul-lt-mul_of_pos_right, mul-pos, one-mul, pow-suc, lt_of_not-le, div-add-mod', le-div_iff_mul-le, zero-mul, mul-one, div-le_self, not-le_of_lt, le_of_mul-le-mul_right, div-one, arith, lit<, lit≤, le→leb, eqb→eq, ltb→lt, lt→ltb, leb→le, nltb→le, pow_pos, pow-add}
+use Rattle.std.proofs.Common.{◌≡◌, ℕ, zero, suc, ◌+◌, ◌-◌, ◌*◌, ◌/◌, ◌%◌, ◌^◌, ◌<◌, ◌≤◌, min, Bool, true, false, not, ◌&&◌, T, eqb, ltb, leb, ℤ, pos, negsuc, sym, refl, ap, ◌∙◌, subst, ap₂, le_trans, le_of_eq, lt_of_lt_of_le, le_of_suc-le-suc, lt_of_le_of_lt, le_of_lt, mul-le-mul_right, mul_assoc, mul_comm, div-lt_iff_lt-mul, lt_of_mul-lt-mul_right, mul-lt-mul_of_pos_right, mul-pos, one-mul, pow-suc, lt_of_not-le, div-add-mod', zero-mul, mul-one, div-le_self, not-le_of_lt, le_of_mul-le-mul_right, div-one, arith, lit<, lit≤, le→leb, eqb→eq, ltb→lt, lt→ltb, leb→le, pow_pos, pow-add}
 use lib.Arith.{le→nltb}
 use lib.Pow.{pow-lt}
 use lib.Ieee.{Float, nan, inf, fin, Format, binary32, binary64, prec, emax, low, up, down, round, neg, sum, add, sub, lt, of_int, to_unsigned, in_float, fits}
@@ -8,10 +8,9 @@ use lib.Ieee.Bits.{cond_no}
 use lib.Ieee.Exact.{HasValue, round_exact}
 use lib.Ieee.Back.{round_whole}
 use lib.Ieee.Scale.{round_same}
-use lib.Ieee.Positive.{num, den, den_pos, value→cross}
+use lib.Ieee.Positive.{num, den, den_pos}
 use Rattle.exact.specs.Value.{plus}
-use Rattle.exact.specs.Integral.{ceiling, toward_zero, toward_negative, toward_positive, ties_to_away, integral, fraction}
-use Rattle.exact.proofs.Value.{value-plus, lt-plus}
+use Rattle.exact.specs.Integral.{toward_zero, toward_negative, toward_positive, ties_to_away, integral, fraction}
 
 -- a test's fact, from what it came to
 pub no : {b : Bool} → b ≡ false → T (not b)
@@ -21,17 +20,6 @@ pub yes : {b : Bool} → b ≡ true → T b
 yes e = subst T (sym e) tt
 
 -- ---- whole numbers next to a fraction
-ceiling-next : (n d : ℕ) → 0 < d → n / d * d < n → n / d + 1 ≡ ceiling n d
-ceiling-next n d D h =
-    let q : n / d * d + n % d ≡ n = div-add-mod' n d in
-    let m : n % d < d = mod-lt n D in
-    le_antisymm ((le-div_iff_mul-le D).1 (omega arith)) (le_of_suc-le-suc ((div-lt_iff_lt-mul D).1 (omega arith)))
-
-ceiling-same : (n d : ℕ) → 0 < d → n ≤ n / d * d → n / d ≡ ceiling n d
-ceiling-same n d D h =
-    let q : n / d * d + n % d ≡ n = div-add-mod' n d in
-    le_antisymm ((le-div_iff_mul-le D).1 (omega arith)) (le_of_suc-le-suc ((div-lt_iff_lt-mul D).1 (omega arith)))
-
 -- ---- what fitting says of the digits, of the lowest exponent and of the highest
 two_up : (p : ℕ) → 0 < p → p * 2 ≡ 1 → ⊥
 two_up p h e = omega arith
@@ -78,7 +66,7 @@ whole-value f s m k t =
     round_exact f s (m * 2 ^ k) 1 m (k + low f) (lit< tt) h.digits (subst (λ (z : ℕ). z < 2 ^ (low f + suc (emax f))) e b) (e ∙ sym (mul-one (m * 2 ^ (k + low f))))
 
 -- ---- below 2 ^ (prec - 1) the digits after the point are cut
-many : (f : Format) → 2 ^ (prec f - 1) * 2 ≡ 2 ^ prec f
+pub many : (f : Format) → 2 ^ (prec f - 1) * 2 ≡ 2 ^ prec f
 many binary32 = refl
 many binary64 = refl
 
@@ -112,7 +100,7 @@ trunc-is (inf s) p h = absurd p
 trunc-is (fin true m e) p h = absurd p
 trunc-is (fin false m e) p h = capped (m * up e / down e) ((div-lt_iff_lt-mul (down_pos e)).1 h)
 
-narrow-end : (f : Format) → 2 ^ (prec f - 1) * 2 ≤ word
+pub narrow-end : (f : Format) → 2 ^ (prec f - 1) * 2 ≤ word
 narrow-end binary32 = lit≤ tt
 narrow-end binary64 = lit≤ tt
 
@@ -139,12 +127,6 @@ whole_of f n h = round_whole f false n h
 cut : (f : Format) (x : Float) (n : ℕ) → Short f x → n ≡ to_unsigned 64 x → n < 2 ^ (prec f - 1)
 cut f x n h e = lt_of_le_of_lt (le_of_eq (e ∙ short-trunc f x h)) ((div-lt_iff_lt-mul (den_pos x)).1 h.most)
 
-pub cut-more : (f : Format) (x : Float) (n : ℕ) → Short f x → n ≡ to_unsigned 64 x → n + 1 ≤ 2 ^ prec f
-cut-more f x n h e = next n (2 ^ (prec f - 1)) (2 ^ prec f) (cut f x n h e) (many f)
-  where
-    next : (n p q : ℕ) → n < p → p * 2 ≡ q → n + 1 ≤ q
-    next n p q h e = omega arith
-
 less : (n q : ℕ) → n + 1 ≤ q → n ≤ q
 less n q h = omega arith
 
@@ -155,28 +137,7 @@ more-than a c k K D e h = lt_of_mul-lt-mul_right D (omega (arith, ap (λ (x : �
 no_more : (a c k K D : ℕ) → 0 < D → K * 1 ≡ k * D → a * D ≤ K * c → a ≤ k * c
 no_more a c k K D P e h = le_of_mul-le-mul_right {k = D} (omega (arith, ap (λ (x : ℕ). x * c) e)) P
 
-cut-value : (f : Format) (x : Float) (n : ℕ) → Short f x → n ≡ to_unsigned 64 x → HasValue (of_int f (pos n)) false n 1
-cut-value f x n h e = whole_of f n (less n (2 ^ prec f) (cut-more f x n h e))
-
 -- the least whole number that is not below x, by the whole part n
-pub next-ceiling : (f : Format) (x : Float) (n : ℕ) → Short f x → n ≡ to_unsigned 64 x → lt (of_int f (pos n)) x ≡ true → n + 1 ≡ ceiling (num x) (den x)
-next-ceiling f x n h e l =
-    let w = of_int f (pos n) in
-    let v = cut-value f x n h e in
-    let q : n ≡ num x / den x = e ∙ short-trunc f x h in
-    let o : num w * den x < num x * den w = ltb→lt (num w * den x) (num x * den w) (yes (sym (lt-plus w x (value-plus w n 1 v) h.sign) ∙ l)) in
-    let c : num x / den x * den x < num x = subst (λ (z : ℕ). z * den x < num x) q (more-than (num x) (den x) n (num w) (den w) (value→cross w n 1 v) o) in
-    ap (λ (z : ℕ). z + 1) q ∙ ceiling-next (num x) (den x) (den_pos x) c
-
-pub same-ceiling : (f : Format) (x : Float) (n : ℕ) → Short f x → n ≡ to_unsigned 64 x → lt (of_int f (pos n)) x ≡ false → n ≡ ceiling (num x) (den x)
-same-ceiling f x n h e l =
-    let w = of_int f (pos n) in
-    let v = cut-value f x n h e in
-    let q : n ≡ num x / den x = e ∙ short-trunc f x h in
-    let o : num x * den w ≤ num w * den x = nltb→le (num w * den x) (num x * den w) (no (sym (lt-plus w x (value-plus w n 1 v) h.sign) ∙ l)) in
-    let c : num x ≤ num x / den x * den x = subst (λ (z : ℕ). num x ≤ z * den x) q (no_more (num x) (den x) n (num w) (den w) (den_pos w) (value→cross w n 1 v) o) in
-    q ∙ ceiling-same (num x) (den x) (den_pos x) c
-
 -- ---- the fraction
 sum-off : (f : Format) (s : Bool) (a b c : ℕ) → b ≤ a → sum f s a (not s) b c ≡ round f (s && ltb b a) (a - b) c
 unfolding sum

@@ -8,3 +8,4 @@ pub mod Magnitude
 pub mod Extreme
 pub mod Draw
 pub mod Library
+pub mod Halves

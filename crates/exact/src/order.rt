@@ -24,7 +24,7 @@ pub fn max_f32(x: f32, y: f32) -> f32
     if y < x {
         return x;
     }
-    if x != x {
+    if x.is_nan() {
         return y;
     }
     if y == 0.0 {
@@ -33,24 +33,11 @@ pub fn max_f32(x: f32, y: f32) -> f32
     x
 }
 
-// Rust's `x.min(y)`. Its own tests are plainer than -max_f32(-x, -y), which turns three signs.
-// Of two zeros -(-x - y) is the minus one, unless both are plus.
+// Rust's `x.min(y)`: the larger of the two with the other signs, with its sign turned back. A number beside a NaN is the result.
 pub fn min_f32(x: f32, y: f32) -> f32
     ensures { result ≡ minimum x y }
 {
-    if x < y {
-        return x;
-    }
-    if y < x {
-        return y;
-    }
-    if x != x {
-        return y;
-    }
-    if y == 0.0 {
-        return -(-x - y);
-    }
-    x
+    -max_f32(-x, -y)
 }
 
 // Rust's `x.clamp(lo, hi)`, which panics where lo is above hi or one of them is a NaN. By tests: std's asks for lo up to hi,

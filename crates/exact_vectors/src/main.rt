@@ -108,7 +108,7 @@ fn of_double(rt: &impl Print, b: u64) -> io::Result<()> {
 
 // A whole number cast to floats, its lower half too, and hashed.
 fn of_whole(rt: &impl Print, n: u64) -> io::Result<()> {
-    let half = (n % 0x1_0000_0000) as u32;
+    let half = (n & 0xffff_ffff) as u32;
     let (single, double) = (bits_f32(u64_to_f32(n)), bits_f64(u64_to_f64(n)));
     let (half_single, half_double) = (bits_f32(u32_to_f32(half)), bits_f64(u32_to_f64(half)));
     println!(rt;

@@ -49,7 +49,8 @@ fn stage(states: &mut [f32; 72], at: usize, c: Coefficients, x: f32) -> f32
     y
 }
 
-// A biquad run n times, on the places from base on.
+// A biquad run n times, on the places from base on. The loop is over the stages' numbers and no array's places: over chunks of two of the
+// states it would take a slice from base on and n of its chunks, where the clause speaks of the whole array.
 #[tactic(auto, unfolding(crate::specs::Filter::stages))]
 fn biquad(states: &mut [f32; 72], base: usize, c: Coefficients, n: u8, x: f32) -> f32
     requires { (n ≤ 3) × (base + 5 < 72) }
@@ -64,6 +65,7 @@ fn biquad(states: &mut [f32; 72], base: usize, c: Coefficients, n: u8, x: f32) -
 
 // One channel of a frame through a slot, whose places for that channel start at base. That it has no more than three stages is asked here
 // and above, and is no type's: a player that is lent may have more, and is then refused, so the shape must be able to say so.
+// The match over the shapes is one over data with different numbers; a table of steps would have to unpack the same four.
 #[tactic(auto, unfolding(crate::specs::Filter::ticked))]
 pub fn tick(states: &mut [f32; 72], shape: FilterShape, base: usize, x: f32) -> f32
     requires { (stage_count shape ≤ 3) × (base + 5 < 72) }

@@ -56,6 +56,7 @@ fn biquad_params(freq: f32, q: f32, sample_rate: f32) -> Angle
     }
 }
 
+// Five products written out: as an array's map they would be put into an array by name and taken out of it by name, in as many lines.
 #[tactic(auto, unfolding(crate::specs::Cookbook::normalized))]
 fn normalize(u: Unscaled) -> Coefficients
     ensures { result ≡ normalized u }

@@ -1,5 +1,5 @@
 // A region's filters and equaliser bands for one note at one rate, in the six slots of a player.
-ghost use Rattle.std.specs.Prelude.{◌≡◌, ◌++◌, map, take};
+ghost use Rattle.std.specs.Prelude.{◌≡◌, ◌++◌, Float, map, take};
 ghost use Rattle.filter_design.specs.Slots.{cutoff_of, quality_of, pole_of, designed, filter_shape, band_quality, equalized, band_shape, filter_slot, band_slot, run, slot_at, six_of};
 
 use crate::cookbook::{
@@ -55,6 +55,8 @@ fn biquad(c: Coefficients, stages: u8) -> FilterShape
     FilterShape::Biquad { c, stages }
 }
 
+// The designs are a match over the kinds, one line each: as a method of the kind that names the design and its stages it would be the
+// same thirteen lines, and a second match over the designs.
 #[tactic(auto, unfolding(crate::specs::Slots::designed))]
 fn designed_shape(kind: FilterKind, freq: f32, q: f32, gain: f32, sr: f32) -> FilterShape
     ensures { result ≡ designed kind freq q gain sr }
@@ -99,18 +101,20 @@ fn band_quality(bw: f32, w0: f32) -> f32
     1.0 / (2.0 * sinh(0.5 * LN_2 * max_f32(bw, 1e-3) * w0 / sin(w0)))
 }
 
-#[tactic(auto, unfolding(crate::specs::Slots::equalized))]
-fn equalized_shape(kind: EqKind, freq: f32, q: f32, gain: f32, sr: f32) -> FilterShape
-    ensures { result ≡ equalized kind freq q gain sr }
+// The filter that a band of a kind is.
+#[tactic(auto, unfolding(crate::specs::Slots::designed, crate::specs::Slots::equalized))]
+fn filter_kind(kind: EqKind) -> FilterKind
+    ensures { (freq q gain rate : Float) → designed result freq q gain rate ≡ equalized kind freq q gain rate }
 {
     match kind {
-        EqKind::Peak => biquad(biquad_peaking_coeffs(freq, q, gain, sr), 1),
-        EqKind::LowShelf => biquad(biquad_low_shelf_coeffs(freq, q, gain, sr), 1),
-        EqKind::HighShelf => biquad(biquad_high_shelf_coeffs(freq, q, gain, sr), 1),
+        EqKind::Peak => FilterKind::Peq,
+        EqKind::LowShelf => FilterKind::Lsh,
+        EqKind::HighShelf => FilterKind::Hsh,
     }
 }
 
-// One equaliser band's shape at a velocity.
+// One equaliser band's shape at a velocity. It shares the design with `filter_shape`, and no more: a band's frequency, gain and quality
+// are worked out from other fields by other formulas, so that one function for both would branch at each of its lines.
 #[tactic(auto, unfolding(crate::specs::Slots::band_shape, crate::specs::Slots::band_frequency))]
 pub fn band_shape(b: EqBand, vel: u8, sr: f32) -> FilterShape
     ensures { result ≡ band_shape b vel sr }
@@ -120,7 +124,7 @@ pub fn band_shape(b: EqBand, vel: u8, sr: f32) -> FilterShape
     let freq = clamp_f32(b.freq + b.vel2freq * v, 1.0, 0.499 * sr);
     let gain = b.gain + b.vel2gain * v;
     let q = band_quality(b.bw, TAU * freq / sr);
-    equalized_shape(kind, freq, q, gain, sr)
+    designed_shape(filter_kind(kind), freq, q, gain, sr)
 }
 
 // The places that a count takes in.

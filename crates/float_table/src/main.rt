@@ -8,24 +8,16 @@ mod tolerance;
 
 use exact::format::widen;
 use exact::order::{bits_f32, from_bits_f32};
-use function::Function;
 use std::io;
-use tolerance::Tolerance;
+use tables::Row;
 
 fn main(rt: HostRuntime) -> io::Result<()> {
-    tables::ROWS.iter().try_for_each(|(function, argument, expected, open)| row(
-        &rt, *function, *argument, *expected, *open,
-    ))
+    tables::ROWS.iter().try_for_each(|r| row(&rt, *r))
 }
 
 // Where the rules leave the result open: the result to 60 digits, where the port's is near it.
-fn row(
-    rt: &impl Print,
-    function: Function,
-    argument: u32,
-    expected: u32,
-    open: Option<Tolerance>,
-) -> io::Result<()> {
+fn row(rt: &impl Print, row: Row) -> io::Result<()> {
+    let (function, argument, expected, open) = row;
     let value = function.of(from_bits_f32(argument));
     let bits = bits_f32(value);
     match open {

@@ -3,7 +3,10 @@
 use crate::function::Function::{self, Cos, Exp, Exp2, Log2, Pow10, Sin, Sinh};
 use crate::tolerance::Tolerance::{self, Bound, Part, PowerPart};
 
-pub const ROWS: [(Function, u32, u32, Option<Tolerance>); 133] = [
+// A tuple and no struct: a const fn that makes a struct was tried, and a constant takes no call; written out, a row is six lines.
+pub type Row = (Function, u32, u32, Option<Tolerance>);
+
+pub const ROWS: [Row; 133] = [
     (Exp2, 0x0000_0000, 0x3f80_0000, Some(Part)),
     (Exp2, 0x8000_0000, 0x3f80_0000, Some(Part)),
     (Exp2, 0x0000_0001, 0x3f80_0000, Some(Part)),

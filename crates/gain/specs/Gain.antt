@@ -31,7 +31,7 @@ curve_gain (Some g) v = g
 abbrev pub taken : Float → Float → Float
 taken t g = magnitude (t ⊘ f100) ⊗ (f1 ⊖ g)
 
--- Some 100 percent the gain is the curve's, at 0 it is 1; below 0 the loud are taken away instead of the soft.
+-- At 100 percent the gain is the curve's, at 0 it is 1; below 0 the loud are taken away instead of the soft.
 unfoldable pub velocity_gain : Float → Option Float → ℕ → Float
 velocity_gain t c v = cond (lt (t ⊘ f100) f0) (taken t (curve_gain c v)) (f1 ⊖ taken t (curve_gain c v))
 

@@ -12,7 +12,6 @@ use Rattle.session.specs.declared.Session.{Session}
 use Rattle.note.specs.declared.NoteState.{NoteState}
 use Rattle.events.specs.declared.SampleVoice.{SampleVoice}
 use Rattle.events.specs.declared.Both.{Both}
-use Rattle.gates.specs.declared.off.Turned.{Turned}
 use Rattle.events.specs.Voice.{Kit, with_players, with_note}
 use Rattle.events.specs.Start.{dispatched_release}
 
@@ -68,10 +67,9 @@ is_taken (Some o) = true
 unfoldable pub took_own : Kit → ℕ → Both → Both
 took_own k m b = let t = took_first b.voice.voice b.session in acts_on k m t.first (record { session = t.session; voice = b.voice })
 
--- whether there was one, and what it did
-unfoldable pub turned_own : Kit → ℕ → Both → Turned
-turned_own k m b =
-    cond (is_taken (took_first b.voice.voice b.session).first) (record { both = took_own k m b; taken = true }) (record { both = b; taken = false })
+-- what it did, where there was one
+unfoldable pub turned_own : Kit → ℕ → Both → Option Both
+turned_own k m b = cond (is_taken (took_first b.voice.voice b.session).first) (Some (took_own k m b)) None
 
 -- Every off time then on the voice's own records acts, first by first, until none is left. Each takes a mark that can be set twice at
 -- most, so that 128 turns are enough for a voice's 32 records and the 32 that its release may add.

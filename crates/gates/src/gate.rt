@@ -21,37 +21,25 @@ use session::{Sequences, Session, lower_held, next_serial, raise_held};
 fn rise(s: Session) -> Session
     ensures { result ≡ risen s }
 {
-    let t = next_serial(s);
-    raise_held(t)
+    raise_held(next_serial(s))
 }
 
 // The session with other sequences.
 fn with_seq(s: Session, q: Sequences) -> Session
     ensures { result ≡ with_seq q s }
 {
-    let mut t = s;
-    t.seq = q;
-    t
+    Session { seq: q, ..s }
 }
 
 // The voice with a new note, under a held gate.
 fn strike(v: SampleVoice, ns: NoteState) -> SampleVoice
     ensures { result ≡ struck ns v }
 {
-    let program = v.program;
-    let players = v.players;
-    let note = Some(ns);
     SampleVoice {
-        voice: v.voice,
-        sample_rate: v.sample_rate,
-        program: program,
-        gate_prev: v.gate_prev,
         gate_held: true,
-        note: note,
+        note: Some(ns),
         started: true,
-        players: players,
-        next_slot: v.next_slot,
-        dropped: v.dropped,
+        ..v
     }
 }
 
@@ -59,9 +47,8 @@ fn strike(v: SampleVoice, ns: NoteState) -> SampleVoice
 fn choose(s: Session, words: &[u32], n: u32, ns: NoteState) -> ChosenOn
     ensures { result ≡ chosen_on (hit_at words.now ns s) n ns.note s.seq }
 {
-    let q = s.seq;
     let draw = rand01(ns.seed, s.event_serial, 0);
-    choose_on(q, words, n, ns.note, ns.vel, s.held, draw)
+    choose_on(s.seq, words, n, ns.note, ns.vel, s.held, draw)
 }
 
 fn attack_cause(s: Session, at: u64) -> Cause
@@ -70,7 +57,7 @@ fn attack_cause(s: Session, at: u64) -> Cause
     Cause {
         serial: s.event_serial,
         on_note: true,
-        at: at,
+        at,
         held_secs: 0.0,
     }
 }
@@ -90,15 +77,13 @@ fn start_note(
 {
     let h = rise(s);
     let c = choose(h, words, n, ns);
-    let q = c.seq;
-    let chosen = c.chosen;
-    let cause = attack_cause(h, at);
-    let t = with_seq(h, q);
+    let t = with_seq(h, c.seq);
     let w = strike(v, ns);
-    start_all(t, w, words, samples, chosen, ns, cause)
+    start_all(t, w, words, samples, c.chosen, ns, attack_cause(h, at))
 }
 
 // The note of a rising gate, and then every off time on the voice's own records.
+#[tactic(auto, unfolding(crate::specs::Gate::noted_on))]
 pub fn note_on(
     s: Session,
     v: SampleVoice,
@@ -112,9 +97,7 @@ pub fn note_on(
 {
     let ns = note_state(k);
     let b = start_note(s, v, words, samples, n, ns, k.at);
-    let t = b.session;
-    let w = b.voice;
-    own_offs(t, w, words, samples, n)
+    own_offs(b.session, b.voice, words, samples, n)
 }
 
 // ---- a falling gate
@@ -122,20 +105,20 @@ pub fn note_on(
 fn ungate(v: SampleVoice) -> SampleVoice
     ensures { result ≡ ungated v }
 {
-    let mut w = v;
-    w.gate_held = false;
-    w
+    SampleVoice {
+        gate_held: false,
+        ..v
+    }
 }
 
 // The players are let go; those ended in their delay leave at once.
+#[tactic(auto, unfolding(crate::specs::Gate::let_go_both))]
 fn let_go(s: Session, v: SampleVoice) -> Both
     requires { PlayersOk v.players }
     ensures { (result ≡ let_go_both (record { session = s; voice = v })) × PlayersOk result.voice.players }
 {
-    let ps = v.players;
-    let r = release_all(ps);
-    let left = r.players;
-    let w = with_players(v, left);
+    let r = release_all(v.players);
+    let w = with_players(v, r.players);
     if r.killed {
         return reap(s, w);
     }
@@ -146,6 +129,7 @@ fn let_go(s: Session, v: SampleVoice) -> Both
 }
 
 // A falling gate, where it was held.
+#[tactic(auto, unfolding(crate::specs::Gate::noted_off, crate::specs::Gate::let_go_note))]
 pub fn note_off(s: Session, v: SampleVoice, words: &[u32], samples: &[u32], n: u32, at: u64) -> Both
     requires { PlayersOk v.players × Bindable words.now × (n ≤ 256) }
     ensures { (result ≡ noted_off (record { words = words.entry.now; samples = samples.now }) n at (record { session = s; voice = v })) × PlayersOk result.voice.players }
@@ -156,10 +140,6 @@ pub fn note_off(s: Session, v: SampleVoice, words: &[u32], samples: &[u32], n: u
             voice: v,
         };
     }
-    let t = lower_held(s);
-    let w = ungate(v);
-    let b = let_go(t, w);
-    let a = b.session;
-    let u = b.voice;
-    dispatch_release(a, u, words, samples, n, at)
+    let b = let_go(lower_held(s), ungate(v));
+    dispatch_release(b.session, b.voice, words, samples, n, at)
 }

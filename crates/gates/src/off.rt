@@ -1,6 +1,6 @@
 // Players that end leave the voice and the session's list; off marks that act: the Rust's `reap` and `apply_off`, and the off times
 // that a note-on leaves on its own voice's records.
-ghost use Rattle.std.specs.Prelude.{◌≡◌, ◌≤◌};
+ghost use Rattle.std.specs.Prelude.{◌≡◌, ◌≤◌, IfSome};
 ghost use Rattle.players.specs.Seats.{PlayersOk};
 ghost use Rattle.events.specs.Voice.{Bindable, with_players, with_note};
 ghost use Rattle.gates.specs.Off.{reaped_both, unfired, fired_note, may_fire, choke_fires, applied_off, turned_own, own_offs};
@@ -16,31 +16,25 @@ use session::{Session, remove_slots, take_first_off};
 pub fn with_players(v: SampleVoice, ps: Players) -> SampleVoice
     ensures { result ≡ with_players ps v }
 {
-    let mut w = v;
-    w.players = ps;
-    w
+    SampleVoice { players: ps, ..v }
 }
 
 // Players whose envelope is done leave the voice, and their records the list.
+#[tactic(auto, unfolding(crate::specs::Off::reaped_both))]
 pub fn reap(s: Session, v: SampleVoice) -> Both
     requires { PlayersOk v.players }
     ensures { (result ≡ reaped_both (record { session = s; voice = v })) × PlayersOk result.voice.players }
 {
-    let ps = v.players;
-    if !any_over(ps) {
+    if !any_over(v.players) {
         return Both {
             session: s,
             voice: v,
         };
     }
-    let r = players::reap(ps);
-    let gone = r.gone;
-    let left = r.players;
-    let t = remove_slots(s, v.voice, gone);
-    let w = with_players(v, left);
+    let r = players::reap(v.players);
     Both {
-        session: t,
-        voice: w,
+        session: remove_slots(s, v.voice, r.gone),
+        voice: with_players(v, r.players),
     }
 }
 
@@ -50,59 +44,34 @@ pub fn reap(s: Session, v: SampleVoice) -> Both
 fn is_unfired(m: Option<NoteState>) -> bool
     ensures { result ≡ unfired m }
 {
-    match m {
-        None => false,
-        Some(n) => !n.choke_released,
-    }
+    m.is_some_and(|n| !n.choke_released)
 }
 
 fn fired_note(m: Option<NoteState>) -> Option<NoteState>
     ensures { result ≡ fired_note m }
 {
-    match m {
-        None => None,
-        Some(n) => {
-            let mut k = n;
-            k.choke_released = true;
-            Some(k)
-        }
-    }
+    m.map(|n| NoteState {
+        choke_released: true,
+        ..n
+    })
 }
 
 // The voice with another note.
 fn with_note(v: SampleVoice, m: Option<NoteState>) -> SampleVoice
     ensures { result ≡ with_note m v }
 {
-    let program = v.program;
-    let players = v.players;
-    SampleVoice {
-        voice: v.voice,
-        sample_rate: v.sample_rate,
-        program: program,
-        gate_prev: v.gate_prev,
-        gate_held: v.gate_held,
-        note: m,
-        started: v.started,
-        players: players,
-        next_slot: v.next_slot,
-        dropped: v.dropped,
-    }
+    SampleVoice { note: m, ..v }
 }
 
 fn may_fire(v: SampleVoice, fires: bool) -> bool
     ensures { result ≡ may_fire fires v }
 {
-    if !fires {
-        return false;
-    }
-    if !v.gate_held {
-        return false;
-    }
-    let m = v.note;
-    is_unfired(m)
+    fires && v.gate_held && is_unfired(v.note)
 }
 
-// Fires the note's release regions, once for each note.
+// Fires the note's release regions, once for each note. `fires` is one of the three conditions that `may_fire` tests, so that it stays a
+// parameter: in the caller's `if` it would be parted from the other two.
+#[tactic(auto, unfolding(crate::specs::Off::choke_fires))]
 fn choke_fires(
     s: Session,
     v: SampleVoice,
@@ -121,15 +90,14 @@ fn choke_fires(
             voice: v,
         };
     }
-    let m = v.note;
-    let f = fired_note(m);
-    let w = with_note(v, f);
+    let w = with_note(v, fired_note(v.note));
     dispatch_release(s, w, words, samples, n, at)
 }
 
 // ---- off marks
 
 // The off mark of a slot acts at the time `at`.
+#[tactic(auto, unfolding(crate::specs::Off::applied_off))]
 pub fn apply_off(
     s: Session,
     v: SampleVoice,
@@ -142,52 +110,26 @@ pub fn apply_off(
     requires { PlayersOk v.players × Bindable words.now × (n ≤ 256) }
     ensures { (result ≡ applied_off (record { words = words.entry.now; samples = samples.now }) n slot at (record { session = s; voice = v })) × PlayersOk result.voice.players }
 {
-    let ps = v.players;
-    let o = off_slot(ps, slot);
+    let o = off_slot(v.players, slot);
     if o.ignored {
         return Both {
             session: s,
             voice: v,
         };
     }
-    let left = o.players;
-    let w = with_players(v, left);
-    let b = reap(s, w);
-    let t = b.session;
-    let u = b.voice;
-    choke_fires(t, u, words, samples, n, at, o.fires)
+    let b = reap(s, with_players(v, o.players));
+    choke_fires(b.session, b.voice, words, samples, n, at, o.fires)
 }
 
-// Whether an off time was taken, and what it did.
-#[derive(Drop)]
-struct Turned {
-    both: Both,
-    taken: bool,
-}
-
-// The voice's first waiting off time is taken and acts.
-fn took_own(b: Both, words: &[u32], samples: &[u32], n: u32) -> Turned
+// The voice's first waiting off time, where there is one, is taken and acts.
+#[tactic(auto, unfolding(crate::specs::Off::turned_own, crate::specs::Off::took_own))]
+fn took_own(b: Both, words: &[u32], samples: &[u32], n: u32) -> Option<Both>
     requires { PlayersOk b.voice.players × Bindable words.now × (n ≤ 256) }
-    ensures { (result ≡ turned_own (record { words = words.entry.now; samples = samples.now }) n b) × PlayersOk result.both.voice.players }
+    ensures { (result ≡ turned_own (record { words = words.entry.now; samples = samples.now }) n b) × IfSome result (λ x. PlayersOk x.voice.players) }
 {
-    let s = b.session;
-    let v = b.voice;
-    let t = take_first_off(s, v.voice);
-    let first = t.first;
-    let rest = t.session;
-    match first {
-        None => Turned {
-            both: b,
-            taken: false,
-        },
-        Some(o) => {
-            let c = apply_off(rest, v, words, samples, n, o.slot, o.at);
-            Turned {
-                both: c,
-                taken: true,
-            }
-        }
-    }
+    let t = take_first_off(b.session, b.voice.voice);
+    let o = t.first?;
+    Some(apply_off(t.session, b.voice, words, samples, n, o.slot, o.at))
 }
 
 // Every off time then on the voice's own records acts, until none is left.
@@ -199,14 +141,11 @@ pub fn own_offs(s: Session, v: SampleVoice, words: &[u32], samples: &[u32], n: u
         session: s,
         voice: v,
     };
-    let mut k: u32 = 0;
-    while k < 128 {
-        let t = took_own(b, words, samples, n);
-        if !t.taken {
+    for _ in 0..128u32 {
+        let Some(next) = took_own(b, words, samples, n) else {
             return b;
-        }
-        b = t.both;
-        k += 1;
+        };
+        b = next;
     }
     b
 }

@@ -1,8 +1,8 @@
 // Where the taps of four frames fall in the table, which is worked out once for all channels.
-ghost use Rattle.std.specs.Prelude.{◌≡◌, Bool, true, false, not, ◌+◌, ◌*◌, ◌≤◌, ◌<◌, min, T, set, length};
+ghost use Rattle.std.specs.Prelude.{◌≡◌, Bool, true, false, not, ◌+◌, ◌*◌, ◌≤◌, ◌<◌, min, T, set, length, replicate};
 ghost use Rattle.std.specs.Float.Ieee.{is_nan, lt, le, to_unsigned};
 ghost use Rattle.exact.specs.Value.{plus};
-ghost use Rattle.exact.specs.Single.{single, ◌⊖◌, f1, f16, f8193};
+ghost use Rattle.exact.specs.Single.{single, ◌⊖◌, f0, f1, f16, f8193};
 ghost use Rattle.exact.specs.Order.{magnitude};
 ghost use Rattle.interp.specs.Places.{place_of, weight_at};
 ghost use Rattle.lanes.specs.Four.{Inside, Parts, Rows, Low, TapOf, Few};
@@ -44,7 +44,9 @@ fn weight_of<const END: bool>(table: &[f32], i: u32, g: f32) -> f32
 }
 
 impl Places {
-    pub fn new() -> Places {
+    pub fn new() -> Places
+        ensures { (result.entries ≡ replicate 320 0) × (result.parts ≡ replicate 320 f0) }
+    {
         Places {
             entries: [0; 320],
             parts: [0.0; 320],
@@ -91,7 +93,8 @@ impl Places {
         self.put(y, k);
     }
 
-    // The places of all taps. The distance is counted down in a float, so that it needs no conversion.
+    // The places of all taps. The distance is counted down in a float, so that it needs no conversion. The loop reads and writes no list
+    // itself: k is the tap's number, which `put_tap` is handed, so that an iterator would be one over the same numbers.
     fn put_all(&mut self, span: SincSpan, f: Four)
         requires { Inside span × Parts f }
         ensures { Rows span f self.new.entries self.new.parts (2 * span.half) }

@@ -1,5 +1,5 @@
 // Standard input line by line, through a buffer that is filled again when less than a whole line may be left in it.
-ghost use Rattle.std.specs.Prelude.{◌≤◌};
+ghost use Rattle.std.specs.Prelude.{◌≡◌, ◌≤◌};
 
 use super::text::part;
 
@@ -33,7 +33,10 @@ pub struct Feed {
 
 impl Feed {
     // Nothing is read yet. Of one script, or of many that are parted by lines `=`.
-    pub fn new(parted: bool) -> Feed {
+    pub fn new(parted: bool) -> Feed
+        ensures from { result.from ≡ 0 }
+        ensures to { result.to ≡ 0 }
+    {
         Feed {
             buf: io::large_buffer(),
             from: 0,

@@ -1,67 +1,26 @@
 -- The loops that choose regions. Assumes nothing.
 use Rattle.std.specs.Prelude.{filter}
-use Prim.Native.Nat.{ℕ, suc, ◌+◌, ◌-◌, ◌<◌, ◌≤◌}
+use Prim.Native.Nat.{ℕ, ◌+◌, ◌<◌, ◌≤◌}
 use mathlib.Core.Path.{◌≡◌, refl, sym, ap, ◌∙◌}
-use mathlib.Core.Bool.{Bool, true, false, cond, ◌&&◌}
+use mathlib.Core.Bool.{Bool, true, false, cond}
 use mathlib.Core.List.{List, [], ◌∷◌, ◌++◌, foldl, append-nil, append_assoc}
 use native.Mathlib.Omega.{arith}
-use lib.ListN.{length, take, get_or, replicate, set, length-append, length-replicate}
+use lib.ListN.{length, take, replicate, set, length-append, length-replicate}
 use lib.Seq.{take_all, take-append-le, length-take-le}
 use lib.Dec.{ltb}
 use lib.Ieee.{Float}
 use borrow.Author.Tests.{ltb-true, ltb-false, le-ltb}
 use Rattle.std.specs.List.{range_with_len}
 use Rattle.std.specs.List.{filter}
-use Rattle.program.specs.Lookup.{holds_key, regions_for_key, regions_from}
+use Rattle.program.specs.Lookup.{holds_key, regions_for_key}
 use Rattle.program.specs.Region.{region_at}
-use Rattle.program.specs.declared.region.Choice.{Choice}
-use Rattle.program.proofs.Checks.{after}
-use Rattle.program.proofs.Lookups.{from_start, no-and}
 use Rattle.session.specs.Lists.{packed}
-use Rattle.session.specs.Tests.{attack_playing}
 use Rattle.session.specs.declared.Sequences.{Sequences}
 use Rattle.session.specs.declared.Session.{Session}
-use Rattle.session.specs.declared.Window.{Window}
 use Rattle.session.proofs.Packing.{packed-set}
-use Rattle.note.specs.Choice.{Hit, Choosing, moved, starts_on, choose_one, choosing_on, may_start, window_in, triggered_off, starts_off, chosen_off, chosen_from, chosen_on, add_region, chosen_step, release_step, triggered_on}
+use Rattle.note.specs.Choice.{Hit, Choosing, moved, starts_on, choose_one, choosing_on, starts_off, chosen_off, chosen_from, chosen_on, add_region, chosen_step}
 use Rattle.note.specs.declared.Chosen.{Chosen}
 use Rattle.note.specs.declared.choice.ChosenOn.{ChosenOn}
-
-and-false : (t : Bool) → t && false ≡ false
-and-false true = refl
-and-false false = refl
-
-and-true : (t : Bool) → t && true ≡ t
-and-true true = refl
-and-true false = refl
-
--- ---- the regions of a key from i on
-
-module _ (ws : List ℕ) (n key i : ℕ) where
-  one : i < n → regions_from ws n key i ≡ cond (holds_key ws key i) (i ∷ regions_from ws n key (i + 1)) (regions_from ws n key (i + 1))
-  unfolding regions_from
-  one h = let e : n - i ≡ suc (n - (i + 1)) = omega arith in ap (λ k. filter (holds_key ws key) (range_with_len i k)) e
-
-  none : n ≤ i → regions_from ws n key i ≡ []
-  unfolding regions_from
-  none h = let e : n - i ≡ 0 = omega arith in ap (λ k. filter (holds_key ws key) (range_with_len i k)) e
-
-  -- a loop that takes f at each of them: what is left once region i is done, and the end. b is the answer of the test
-  module _ {B : Type 0} (f : B → ℕ → B) (start : B) (x : B) (so_far : start ≡ foldl f x (regions_from ws n key i)) where
-    pub turn-here : (b : Bool) (y : B) → i < n → b ≡ holds_key ws key i → b ≡ true → y ≡ f x i → start ≡ foldl f y (regions_from ws n key (i + 1))
-    turn-here b y h told t e =
-        so_far
-        ∙ ap (foldl f x) (one h ∙ ap (λ k. cond k (i ∷ regions_from ws n key (i + 1)) (regions_from ws n key (i + 1))) (sym told ∙ t))
-        ∙ ap (λ z. foldl f z (regions_from ws n key (i + 1))) (sym e)
-
-    pub turn-past : (b : Bool) (y : B) → i < n → b ≡ holds_key ws key i → b ≡ false → y ≡ x → start ≡ foldl f y (regions_from ws n key (i + 1))
-    turn-past b y h told t e =
-        so_far
-        ∙ ap (foldl f x) (one h ∙ ap (λ k. cond k (i ∷ regions_from ws n key (i + 1)) (regions_from ws n key (i + 1))) (sym told ∙ t))
-        ∙ ap (λ z. foldl f z (regions_from ws n key (i + 1))) (sym e)
-
-    pub turns-over : n ≤ i → x ≡ start
-    turns-over h = sym (so_far ∙ ap (foldl f x) (none h))
 
 -- ---- the array
 
@@ -107,86 +66,22 @@ module _ (h : Hit) where
   fold-array c [] = refl
   fold-array c (i ∷ is) = ap (λ x. foldl (chosen_step h) x is) (step-array c i) ∙ fold-array (choose_one h c i) is
 
-  pub on-start : (n key : ℕ) (q : Sequences) (c : Chosen) → c ≡ chosen_from []
-      → chosen_on h n key q ≡ foldl (chosen_step h) (record { seq = q; chosen = c }) (regions_from h.words n key 0)
-  unfolding chosen_on choosing_on
-  on-start n key q c e =
-      sym (fold-array (record { seq = q; regions = [] }) (regions_for_key h.words n key))
-      ∙ ap (foldl (chosen_step h) (as_array (record { seq = q; regions = [] }))) (sym (from_start h.words n key))
-      ∙ ap (λ (x : Chosen). foldl (chosen_step h) (record { seq = q; chosen = x }) (regions_from h.words n key 0)) (sym e)
-
-  -- what the test of `choose_one` tells
-  module _ (c : ChosenOn) (i : ℕ) (q : Sequences) (b : Bool) (stepped : q ≡ moved (region_at h.words i) i c.seq) (told : b ≡ starts_on h q i) where
-    so : (t : Bool) → b ≡ t → (record { seq = q; chosen = cond t (add_region i c.chosen) c.chosen }) ≡ chosen_step h c i
-    unfolding chosen_step
-    so t e =
-        ap (λ k. record { seq = q; chosen = cond k (add_region i c.chosen) c.chosen }) (sym e ∙ told)
-        ∙ ap (λ x. record { seq = x; chosen = cond (starts_on h x i) (add_region i c.chosen) c.chosen }) stepped
-
-    pub left_out : b ≡ false → (record { seq = q; chosen = c.chosen }) ≡ chosen_step h c i
-    left_out e = so false e
-
-    pub put_in : (m : Chosen) → b ≡ true → m ≡ add_region i c.chosen → (record { seq = q; chosen = m }) ≡ chosen_step h c i
-    put_in m e f = ap (λ (x : Chosen). record { seq = q; chosen = x }) f ∙ so true e
+  pub array-on : (n key : ℕ) (q : Sequences) (c : Chosen) → c ≡ chosen_from []
+      → foldl (chosen_step h) (record { seq = q; chosen = c }) (filter (holds_key h.words key) (range_with_len 0 n)) ≡ chosen_on h n key q
+  unfolding chosen_on choosing_on regions_for_key
+  array-on n key q c e =
+      ap (λ (x : Chosen). foldl (chosen_step h) (record { seq = q; chosen = x }) (filter (holds_key h.words key) (range_with_len 0 n))) e
+      ∙ fold-array (record { seq = q; regions = [] }) (regions_for_key h.words n key)
 
 -- ---- at a note's release
 
-module _ (ws : List ℕ) (vel : ℕ) (draw : Float) (s : Session) where
-  fold-kept : (ks is : List ℕ) → foldl (release_step ws vel draw s) (chosen_from ks) is ≡ chosen_from (ks ++ filter (starts_off ws vel draw s) is)
-  unfolding release_step
-  fold-kept ks [] = ap chosen_from (sym (append-nil ks))
-  fold-kept ks (i ∷ is) = by-case (starts_off ws vel draw s i) (fold-kept (ks ++ (i ∷ [])) is) (fold-kept ks is) where
-    by-case : (t : Bool) → foldl (release_step ws vel draw s) (chosen_from (ks ++ (i ∷ []))) is ≡ chosen_from ((ks ++ (i ∷ [])) ++ filter (starts_off ws vel draw s) is)
-        → foldl (release_step ws vel draw s) (chosen_from ks) is ≡ chosen_from (ks ++ filter (starts_off ws vel draw s) is)
-        → foldl (release_step ws vel draw s) (cond t (add_region i (chosen_from ks)) (chosen_from ks)) is
-        ≡ chosen_from (ks ++ cond t (i ∷ filter (starts_off ws vel draw s) is) (filter (starts_off ws vel draw s) is))
-    by-case true more same =
-        ap (λ x. foldl (release_step ws vel draw s) x is) (added ks i) ∙ more
-        ∙ ap chosen_from (append_assoc ks (i ∷ []) (filter (starts_off ws vel draw s) is))
-    by-case false more same = same
+fold-added : (ks is : List ℕ) → foldl (λ c i. add_region i c) (chosen_from ks) is ≡ chosen_from (ks ++ is)
+fold-added ks [] = ap chosen_from (sym (append-nil ks))
+fold-added ks (i ∷ is) = ap (λ x. foldl (λ c k. add_region k c) x is) (added ks i) ∙ fold-added (ks ++ (i ∷ [])) is ∙ ap chosen_from (append_assoc ks (i ∷ []) is)
 
-  pub off-start : (n key : ℕ) (c : Chosen) → c ≡ chosen_from [] → chosen_from (chosen_off ws n key vel draw s) ≡ foldl (release_step ws vel draw s) c (regions_from ws n key 0)
-  unfolding chosen_off
-  off-start n key c e =
-      sym (fold-kept [] (regions_for_key ws n key))
-      ∙ ap (foldl (release_step ws vel draw s) (chosen_from [])) (sym (from_start ws n key))
-      ∙ ap (λ (x : Chosen). foldl (release_step ws vel draw s) x (regions_from ws n key 0)) (sym e)
-
-  -- what the test of `release_one` tells
-  module _ (c : Chosen) (i : ℕ) (b : Bool) (told : b ≡ starts_off ws vel draw s i) where
-    pub not-released : b ≡ false → c ≡ release_step ws vel draw s c i
-    unfolding release_step
-    not-released e = ap (λ t. cond t (add_region i c) c) (sym e ∙ told)
-
-    pub released : (m : Chosen) → b ≡ true → m ≡ add_region i c → m ≡ release_step ws vel draw s c i
-    unfolding release_step
-    released m e f = f ∙ ap (λ t. cond t (add_region i c) c) (sym e ∙ told)
-
--- what the tests of `starts_off` tell
-module _ (ws : List ℕ) (vel : ℕ) (draw : Float) (s : Session) (i : ℕ) (on : Bool) (b : Bool) (flag : on ≡ get_or s.seq.seq_on i false) (told : b ≡ may_start (region_at ws i) vel draw on) where
-  may : b ≡ may_start (region_at ws i) vel draw (get_or s.seq.seq_on i false)
-  may = told ∙ ap (may_start (region_at ws i) vel draw) flag
-
-  pub off-late : b ≡ false → false ≡ starts_off ws vel draw s i
-  unfolding starts_off
-  off-late e = sym (ap (λ t. triggered_off (region_at ws i).chosen.trigger (attack_playing (window_in (region_at ws i)) s) && t) (sym may ∙ e) ∙ and-false (triggered_off (region_at ws i).chosen.trigger (attack_playing (window_in (region_at ws i)) s)))
-
-  pub off-kept : b ≡ true → (x : Choice) (w : Window) (r : Bool) → x ≡ (region_at ws i).chosen → w ≡ window_in (region_at ws i)
-      → r ≡ triggered_off x.trigger (attack_playing w s) → r ≡ starts_off ws vel draw s i
-  unfolding starts_off
-  off-kept e x w r f g k =
-      k ∙ ap (λ (y : Choice). triggered_off y.trigger (attack_playing w s)) f ∙ ap (λ v. triggered_off (region_at ws i).chosen.trigger (attack_playing v s)) g
-      ∙ sym (ap (λ t. triggered_off (region_at ws i).chosen.trigger (attack_playing (window_in (region_at ws i)) s) && t) (sym may ∙ e) ∙ and-true (triggered_off (region_at ws i).chosen.trigger (attack_playing (window_in (region_at ws i)) s)))
-
--- what the tests of `starts_on` tell
-module _ (h : Hit) (q : Sequences) (i : ℕ) (x : Choice) (b : Bool) (read : x ≡ (region_at h.words i).chosen) (told : b ≡ triggered_on x.trigger h.held) where
-  triggered : b ≡ triggered_on (region_at h.words i).chosen.trigger h.held
-  triggered = told ∙ ap (λ (y : Choice). triggered_on y.trigger h.held) read
-
-  pub on-late : b ≡ false → false ≡ starts_on h q i
-  unfolding starts_on
-  on-late e = no-and _ (sym triggered ∙ e)
-
-  pub on-kept : (f r : Bool) → b ≡ true → f ≡ get_or q.seq_on i false → r ≡ may_start (region_at h.words i) h.vel h.draw f → r ≡ starts_on h q i
-  unfolding starts_on
-  on-kept f r e g k = after (sym triggered ∙ e) (k ∙ ap (may_start (region_at h.words i) h.vel h.draw) g)
+pub array-off : (ws : List ℕ) (vel : ℕ) (draw : Float) (s : Session) (n key : ℕ) (c : Chosen) → c ≡ chosen_from []
+    → foldl (λ d i. add_region i d) c (filter (starts_off ws vel draw s) (filter (holds_key ws key) (range_with_len 0 n))) ≡ chosen_from (chosen_off ws n key vel draw s)
+unfolding chosen_off regions_for_key
+array-off ws vel draw s n key c e =
+    ap (λ (x : Chosen). foldl (λ d i. add_region i d) x (filter (starts_off ws vel draw s) (regions_for_key ws n key))) e
+    ∙ fold-added [] (filter (starts_off ws vel draw s) (regions_for_key ws n key))

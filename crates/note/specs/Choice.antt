@@ -125,7 +125,3 @@ unfoldable pub chosen_step : Hit → ChosenOn → ℕ → ChosenOn
 chosen_step h c i =
     let q = moved (region_at h.words i) i c.seq in
     record { seq = q; chosen = cond (starts_on h q i) (add_region i c.chosen) c.chosen }
-
--- one region of the release
-unfoldable pub release_step : List ℕ → ℕ → Float → Session → Chosen → ℕ → Chosen
-release_step ws vel draw s c i = cond (starts_off ws vel draw s i) (add_region i c) c

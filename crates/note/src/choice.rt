@@ -2,11 +2,11 @@
 ghost use Rattle.std.specs.Prelude.{◌≡◌, []};
 ghost use Rattle.program.specs.Region.{region_at};
 ghost use Rattle.session.specs.Tests.{attack_playing};
-ghost use Rattle.note.specs.Choice.{length_of, position_of, draw_in, hears_velocity, may_start, triggered_on, starts_on, chosen_step, chosen_on, window_in, triggered_off, starts_off, chosen_off, chosen_from, add_region, release_step, moved};
+ghost use Rattle.note.specs.Choice.{draw_in, hears_velocity, may_start, triggered_on, starts_on, chosen_step, chosen_on, window_in, triggered_off, starts_off, chosen_off, chosen_from, add_region, moved};
 
 use super::Chosen;
 use program::lookup::{choice_at, holds_key, window_at};
-use program::region::{Rand, Seq, Trigger};
+use program::region::{Rand, Trigger};
 use session::{Sequences, Session, Window, attack_playing, flag_of, step_sequence};
 
 // The sequences, and the regions that start.
@@ -16,38 +16,11 @@ pub struct ChosenOn {
     pub chosen: Chosen,
 }
 
-// A region without a sequence stands at 1 of 1.
-fn seq_length(s: Option<Seq>) -> u32
-    ensures { result ≡ length_of s }
-{
-    match s {
-        None => 1,
-        Some(q) => q.length,
-    }
-}
-
-fn seq_position(s: Option<Seq>) -> u32
-    ensures { result ≡ position_of s }
-{
-    match s {
-        None => 1,
-        Some(q) => q.position,
-    }
-}
-
 // Whether the draw lies in the region's part, its upper end left out.
 fn draw_in(r: Option<Rand>, draw: f32) -> bool
     ensures { result ≡ draw_in r draw }
 {
-    match r {
-        None => true,
-        Some(r) => {
-            if !(r.lo <= draw) {
-                return false;
-            }
-            draw < r.hi
-        }
-    }
+    r.is_none_or(|r| r.lo <= draw && draw < r.hi)
 }
 
 // Whether region i's velocity window holds the velocity.
@@ -55,25 +28,15 @@ fn hears_velocity(words: &[u32], i: u32, vel: u8) -> bool
     ensures { result ≡ hears_velocity (region_at words.now i) vel }
 {
     let w = window_at(words, i);
-    if vel < w.lovel {
-        return false;
-    }
-    vel <= w.hivel
+    w.lovel <= vel && vel <= w.hivel
 }
 
 // Whether velocity and draw let region i start, where its place in the sequence was hit.
+#[tactic(auto, unfolding(crate::specs::Choice::may_start))]
 fn may_start(words: &[u32], i: u32, vel: u8, draw: f32, on: bool) -> bool
     ensures { result ≡ may_start (region_at words.now i) vel draw on }
 {
-    if !on {
-        return false;
-    }
-    if !hears_velocity(words, i, vel) {
-        return false;
-    }
-    let x = choice_at(words, i);
-    let r = x.rand;
-    draw_in(r, draw)
+    on && hears_velocity(words, i, vel) && draw_in(choice_at(words, i).rand, draw)
 }
 
 // ---- at a note-on
@@ -84,77 +47,65 @@ fn triggered_on(t: Trigger, held: u32) -> bool
 {
     match t {
         Trigger::Attack => true,
-        Trigger::Release => false,
-        Trigger::ReleaseKey => false,
         Trigger::First => held == 1,
         Trigger::Legato => 1 < held,
+        Trigger::Release | Trigger::ReleaseKey => false,
     }
 }
 
 // Whether region i starts, its sequence moved already.
+#[tactic(auto, unfolding(crate::specs::Choice::starts_on))]
 fn starts_on(q: Sequences, words: &[u32], i: u32, vel: u8, held: u32, draw: f32) -> bool
     ensures { result ≡ starts_on (record { words = words.entry.now; vel = vel; held = held; draw = draw }) q i }
 {
-    let x = choice_at(words, i);
-    let t = x.trigger;
-    if !triggered_on(t, held) {
-        return false;
-    }
-    let on = flag_of(q, i as usize);
-    may_start(words, i, vel, draw, on)
+    triggered_on(choice_at(words, i).trigger, held)
+        && may_start(words, i, vel, draw, flag_of(q, i as usize))
 }
 
 // One region more, where there is room.
-fn add_region(c: Chosen, i: u32) -> Chosen
+#[tactic(auto, unfolding(crate::specs::Choice::add_region))]
+fn add_region(mut c: Chosen, i: u32) -> Chosen
     ensures { result ≡ add_region i c }
 {
-    if 256 <= c.count {
-        return c;
+    if c.count < 256 {
+        c.regions[c.count] = i;
+        c.count += 1;
     }
-    let mut t = c;
-    let at = t.count;
-    t.regions[at] = i;
-    t.count = at + 1;
-    t
+    c
 }
 
-// Region i's sequence moves.
+// Region i's sequence moves; a region without one stands at 1 of 1.
 fn step_region(q: Sequences, words: &[u32], i: u32) -> Sequences
     ensures { result ≡ moved (region_at words.now i) i q }
 {
-    let x = choice_at(words, i);
-    let s = x.seq;
-    let length = seq_length(s);
-    let position = seq_position(s);
-    step_sequence(q, i as usize, length, position)
+    let s = choice_at(words, i).seq;
+    step_sequence(
+        q,
+        i as usize,
+        s.map_or(1, |t| t.length),
+        s.map_or(1, |t| t.position),
+    )
 }
 
 // Region i's sequence moves; where it starts, it is one more.
+#[tactic(auto, unfolding(crate::specs::Choice::chosen_step))]
 fn choose_one(c: ChosenOn, words: &[u32], i: u32, vel: u8, held: u32, draw: f32) -> ChosenOn
     ensures { result ≡ chosen_step (record { words = words.entry.now; vel = vel; held = held; draw = draw }) c i }
 {
-    let before = c.seq;
-    let chosen = c.chosen;
-    let q = step_region(before, words, i);
-    if !starts_on(q, words, i, vel, held, draw) {
-        return ChosenOn {
-            seq: q,
-            chosen: chosen,
-        };
-    }
-    let more = add_region(chosen, i);
-    ChosenOn {
-        seq: q,
-        chosen: more,
-    }
+    let seq = step_region(c.seq, words, i);
+    let chosen = if starts_on(seq, words, i, vel, held, draw) {
+        add_region(c.chosen, i)
+    } else {
+        c.chosen
+    };
+    ChosenOn { seq, chosen }
 }
 
 fn none_chosen() -> Chosen
     ensures { result ≡ chosen_from [] }
 {
-    let regions = [0u32; 256];
     Chosen {
-        regions: regions,
+        regions: [0; 256],
         count: 0,
     }
 }
@@ -171,24 +122,19 @@ pub fn choose_on(
 ) -> ChosenOn
     ensures { result ≡ chosen_on (record { words = words.entry.now; vel = vel; held = held; draw = draw }) n key q }
 {
-    let none = none_chosen();
-    let mut c = ChosenOn {
+    let none = ChosenOn {
         seq: q,
-        chosen: none,
+        chosen: none_chosen(),
     };
-    let mut i: u32 = 0;
-    while i < n {
-        if holds_key(words, key, i) {
-            c = choose_one(c, words, i, vel, held, draw);
-        }
-        i += 1;
-    }
-    c
+    (0..n)
+        .filter(|i| holds_key(words, key, *i))
+        .fold(none, |c, i| choose_one(c, words, i, vel, held, draw))
 }
 
 // ---- at a note's release
 
-// The keys and velocities of region i, as the session asks for them.
+// The keys and velocities of region i, as the session asks for them. The two windows belong to crates that know nothing of each other,
+// so that neither can be made from the other but here.
 fn window_in(words: &[u32], i: u32) -> Window
     ensures { result ≡ window_in (region_at words.now i) }
 {
@@ -206,50 +152,27 @@ fn triggered_off(t: Trigger, s: Session, w: Window) -> bool
     ensures { result ≡ triggered_off t (attack_playing w s) }
 {
     match t {
-        Trigger::Attack => false,
         Trigger::Release => attack_playing(s, w),
         Trigger::ReleaseKey => true,
-        Trigger::First => false,
-        Trigger::Legato => false,
+        Trigger::Attack | Trigger::First | Trigger::Legato => false,
     }
 }
 
 // Whether the release starts region i.
+#[tactic(auto, unfolding(crate::specs::Choice::starts_off))]
 fn starts_off(s: Session, words: &[u32], i: u32, vel: u8, draw: f32) -> bool
     ensures { result ≡ starts_off words.now vel draw s i }
 {
-    let q = s.seq;
-    let on = flag_of(q, i as usize);
-    if !may_start(words, i, vel, draw, on) {
-        return false;
-    }
-    let x = choice_at(words, i);
-    let t = x.trigger;
-    let w = window_in(words, i);
-    triggered_off(t, s, w)
-}
-
-// Where the release starts region i, it is one more.
-fn release_one(c: Chosen, s: Session, words: &[u32], i: u32, vel: u8, draw: f32) -> Chosen
-    ensures { result ≡ release_step words.now vel draw s c i }
-{
-    if !starts_off(s, words, i, vel, draw) {
-        return c;
-    }
-    add_region(c, i)
+    may_start(words, i, vel, draw, flag_of(s.seq, i as usize))
+        && triggered_off(choice_at(words, i).trigger, s, window_in(words, i))
 }
 
 // The regions that a note's release starts, of n regions.
 pub fn choose_off(s: Session, words: &[u32], n: u32, key: u8, vel: u8, draw: f32) -> Chosen
     ensures { result ≡ chosen_from (chosen_off words.now n key vel draw s) }
 {
-    let mut c = none_chosen();
-    let mut i: u32 = 0;
-    while i < n {
-        if holds_key(words, key, i) {
-            c = release_one(c, s, words, i, vel, draw);
-        }
-        i += 1;
-    }
-    c
+    (0..n)
+        .filter(|i| holds_key(words, key, *i))
+        .filter(|i| starts_off(s, words, *i, vel, draw))
+        .fold(none_chosen(), add_region)
 }

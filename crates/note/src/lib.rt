@@ -3,6 +3,7 @@
 #![tactic(auto)]
 
 ghost use Rattle.std.specs.Prelude.{◌≡◌};
+ghost use Rattle.note.specs.Choice.{chosen_list};
 ghost use Rattle.note.specs.Note.{note_of, key_of, velocity_of, kernel_of, note_state};
 
 pub mod choice;
@@ -12,6 +13,7 @@ use exact::cast::f32_to_u8;
 use exact::integral::round_f32;
 use exact::order::{bits_f32, clamp_f32, is_finite_f32};
 use interp::Interp;
+use session::used;
 
 // The note that a voice plays.
 #[derive(Clone, Copy)]
@@ -44,20 +46,29 @@ pub struct Chosen {
     pub count: usize,
 }
 
+impl Chosen {
+    // The regions in use, in order.
+    pub fn as_slice(&self) -> &[u32]
+        ensures { result.now ≡ chosen_list self.now }
+    {
+        &self.regions[..used::<256>(self.count)]
+    }
+}
+
 // The note of a frequency, or `other`.
+#[tactic(auto, unfolding(crate::specs::Note::note_of))]
 pub fn note_of(freq: f32, other: f32) -> f32
     ensures { result ≡ note_of freq other }
 {
-    if !(freq > 0.0) {
-        return other;
+    if freq > 0.0 && is_finite_f32(freq) {
+        69.0 + 12.0 * log2(freq / 440.0)
+    } else {
+        other
     }
-    if !is_finite_f32(freq) {
-        return other;
-    }
-    69.0 + 12.0 * log2(freq / 440.0)
 }
 
 // The nearest whole number, from 0 to 127.
+#[tactic(auto, unfolding(crate::specs::Note::key_of))]
 fn key_of(x: f32) -> u8
     ensures { result ≡ key_of x }
 {
@@ -65,41 +76,42 @@ fn key_of(x: f32) -> u8
 }
 
 // The velocity of 127; one that is not finite is 100.
+#[tactic(auto, unfolding(crate::specs::Note::velocity_of))]
 fn velocity_of(v: f32) -> u8
     ensures { result ≡ velocity_of v }
 {
-    if !is_finite_f32(v) {
-        return 100;
+    if is_finite_f32(v) {
+        key_of(v * 127.0)
+    } else {
+        100
     }
-    key_of(v * 127.0)
 }
 
 // The kernel that the quality input, where there is one, names.
+#[tactic(auto, unfolding(crate::specs::Note::kernel_of))]
 fn kernel_of(given: bool, q: f32) -> Interp
     ensures { result ≡ kernel_of given q }
 {
-    if !given {
-        return Interp::Sinc;
+    if given {
+        Interp::from_quality(q, Interp::Sinc)
+    } else {
+        Interp::Sinc
     }
-    Interp::from_quality(q, Interp::Sinc)
 }
 
 // The note of a rising gate.
+#[tactic(auto, unfolding(crate::specs::Note::note_state))]
 pub fn note_state(k: Strike) -> NoteState
     ensures { result ≡ note_state k }
 {
     let note_f = note_of(k.freq, 60.0);
-    let note = key_of(note_f);
-    let vel = velocity_of(k.vel);
-    let seed = bits_f32(k.seed);
-    let interp = kernel_of(k.has_quality, k.quality);
     NoteState {
-        note: note,
-        vel: vel,
-        note_f: note_f,
+        note: key_of(note_f),
+        vel: velocity_of(k.vel),
+        note_f,
         on_time: k.at,
-        seed: seed,
-        interp: interp,
+        seed: bits_f32(k.seed),
+        interp: kernel_of(k.has_quality, k.quality),
         choke_released: false,
     }
 }

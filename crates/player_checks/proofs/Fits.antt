@@ -13,7 +13,7 @@ use lib.Ieee.{Float, nan, inf, fin, binary64, up, down, le, eq, fits}
 use lib.Ieee.Back.{whole_unique}
 use lib.Ieee.Exact.{HasValue}
 use lib.Ieee.Fits.{and_l, and_r, down_pos, of_int-fits}
-use borrow.Author.Tests.{ltb-true, ltb-false, leb-true, leb-false, lt-ltb, le-ltb, lt-leb, le-leb, not-true, not-false}
+use borrow.Author.Tests.{ltb-true, ltb-false, leb-true, leb-false, not-true, not-false}
 use Rattle.filter.specs.declared.FilterShape.{FilterShape}
 use Rattle.filter.specs.declared.FilterShape.TheVariants.{Off}
 use Rattle.filter.specs.Filter.{AllStages, stage_count, shape_at}
@@ -31,7 +31,6 @@ use Rattle.players.specs.declared.Players.{Players}
 use Rattle.players.specs.Seats.{PlayersOk, sounding, no_player}
 use Rattle.player_checks.specs.Sound.{slot_fits, stages_over, is_double, loop_wrong, position_out, step_out, frame_count, loop_past, own_tests, sample_tests, player_fits, sample_fits, players_fit, samples_fit}
 use Rattle.program.proofs.Checks.{every-at}
-use Rattle.program.proofs.Checks.{every-no, after, final}
 use Rattle.program.proofs.Checks.{and-true}
 use Rattle.players.proofs.Passing.{each_at}
 
@@ -75,31 +74,8 @@ unfolding is_double
 told-double n x h = sym (ap (λ (t : Bool). eq x (double n) && t) h ∙ and-true (eq x (double n)))
 
 -- ---- the test of a loop
-above : (i j : ℕ) → ltb i j ≡ not (leb j i)
-above i j = by-case (leb j i) refl
-  where
-    by-case : (t : Bool) → leb j i ≡ t → ltb i j ≡ not t
-    by-case true q = le-ltb i j (leb-true j i q)
-    by-case false q = lt-ltb i j (leb-false j i q)
-
 abbrev loop_tests : LoopRt → List Bool
 loop_tests l = leb l.start l.end ∷ is_double (l.end + 1 - l.start) l.size ∷ leb l.xf l.start ∷ []
-
-module _ (lp : Option LoopRt) (l : LoopRt) (is : lp ≡ Some l) where
-  pub ends-early : l.end < l.start → true ≡ loop_wrong lp
-  unfolding loop_wrong
-  ends-early h = ap not (every-no (loop_tests l) 0 (lt-leb _ _ h)) ∙ ap loop_wrong (sym is)
-
-  module _ (b : Bool) (told : b ≡ is_double (l.end + 1 - l.start) l.size) where
-    pub other-size : not b ≡ true → true ≡ loop_wrong lp
-    unfolding loop_wrong
-    other-size e = ap not (every-no (loop_tests l) 1 (sym told ∙ not-true b e)) ∙ ap loop_wrong (sym is)
-
-    pub fade-over : l.start ≤ l.end → not b ≡ false → ltb l.start l.xf ≡ loop_wrong lp
-    unfolding loop_wrong
-    fade-over h e =
-        let q : leb l.xf l.start ≡ every (loop_tests l) = after (le-leb _ _ h) (after (sym told ∙ not-false b e) (final refl)) in
-        above l.start l.xf ∙ ap not q ∙ ap loop_wrong (sym is)
 
 -- ---- a player
 

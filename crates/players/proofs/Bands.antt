@@ -1,7 +1,7 @@
 -- The players' segments, one after the other: the loop's state, and what a segment keeps. Assumes nothing.
 use Rattle.std.specs.List.{list_any}
 use Rattle.std.specs.Prelude.{cond}
-use Prim.Native.Nat.{ℕ, zero, suc, ◌+◌, ◌-◌, ◌<◌, ◌≤◌}
+use Prim.Native.Nat.{ℕ, zero, suc, ◌+◌, ◌<◌, ◌≤◌}
 use mathlib.Core.Path.{◌≡◌, refl, sym, ap, subst, ◌∙◌}
 use mathlib.Core.Bool.{Bool, true, false, ◌||◌}
 use mathlib.Core.List.{List, [], ◌∷◌, ◌++◌, foldl, foldl-append, map, map-append}

@@ -1,37 +1,12 @@
--- Loops that test the first n elements of a list. Assumes nothing.
-use Prim.Native.Nat.{ℕ, zero, suc, ◌+◌, ◌<◌, ◌≤◌}
-use mathlib.Core.Path.{◌≡◌, refl, sym, ap, ◌∙◌}
+-- What a test of every element tells of each, and elements that are there. Assumes nothing.
+use Prim.Native.Nat.{ℕ, zero, suc, ◌<◌}
+use mathlib.Core.Path.{◌≡◌, refl, sym}
 use mathlib.Core.Bool.{Bool, true, false, ◌&&◌, true≢false}
 use mathlib.Core.List.{List, [], ◌∷◌, map}
 use native.Mathlib.Omega.{arith}
-use native.Mathlib.Numerals.{add-one}
-use lib.ListN.{length, take, drop, get_or, length-take, drop_of_length-le}
-use lib.Seq.{drop-cons, get_or-take, length-take-le}
+use lib.ListN.{length, get_or}
 use Rattle.program.specs.Valid.{every}
 use Rattle.program.proofs.Checks.{every-at}
-
--- what is left of the first n from i on
-abbrev pub left_of : {A : Type 0} → (A → Bool) → List A → ℕ → ℕ → Bool
-left_of f xs n i = every (map f (drop i (take n xs)))
-
-module _ {A : Type 0} (f : A → Bool) (xs : List A) (n i : ℕ) (d : A) where
-  one : n ≤ length xs → i < n → left_of f xs n i ≡ (f (get_or xs i d) && left_of f xs n (i + 1))
-  one long h =
-      let m : i < length (take n xs) = rw (length-take-le n xs long) h in
-      ap (λ l. every (map f l)) (drop-cons (take n xs) i d m)
-      ∙ ap (λ x. f x && left_of f xs n (suc i)) (get_or-take n xs i d h)
-      ∙ ap (λ k. f (get_or xs i d) && left_of f xs n k) (sym (add-one i))
-
-  pub passes : n ≤ length xs → i < n → f (get_or xs i d) ≡ true → left_of f xs n i ≡ left_of f xs n (i + 1)
-  passes long h e = one long h ∙ ap (λ t. t && left_of f xs n (i + 1)) e
-
-  pub fails : n ≤ length xs → i < n → f (get_or xs i d) ≡ false → left_of f xs n i ≡ false
-  fails long h e = one long h ∙ ap (λ t. t && left_of f xs n (i + 1)) e
-
-  pub ends : n ≤ i → left_of f xs n i ≡ true
-  ends h =
-      let m : length (take n xs) ≤ i = simp length-take (omega arith) in
-      ap (λ l. every (map f l)) (drop_of_length-le (take n xs) m)
 
 -- each of the elements passes where all do
 pub each_at : {A : Type 0} (f : A → Bool) (xs : List A) (i : ℕ) (d : A) → every (map f xs) ≡ true → i < length xs → f (get_or xs i d) ≡ true

@@ -1,7 +1,8 @@
 -- Loops over the players in use. Assumes nothing.
-use Rattle.std.specs.List.{list_any}
-use Rattle.std.specs.Prelude.{filter}
-use Prim.Native.Nat.{ℕ, ◌+◌, ◌-◌, ◌<◌, ◌≤◌}
+use Rattle.std.specs.List.{list_any, position_or_len}
+use Rattle.std.specs.Prelude.{filter, position, None, Some, Option}
+use Rattle.std.proofs.lemmas.List.Quantifiers.{position-Some}
+use Prim.Native.Nat.{ℕ, zero, suc, ◌+◌, ◌-◌, ◌<◌, ◌≤◌}
 use mathlib.Core.Path.{◌≡◌, refl, sym, ap, subst, ◌∙◌}
 use mathlib.Core.Bool.{Bool, true, false, not, cond, ◌&&◌, ◌||◌}
 use mathlib.Core.List.{List, [], ◌∷◌, ◌++◌, map, append-nil}
@@ -9,14 +10,15 @@ use native.Mathlib.Omega.{arith}
 use native.Mathlib.Numerals.{add-one}
 use native.Mathlib.Nat.{le_antisymm}
 use lib.ListN.{length, take, drop, set, get_or, replicate, length-append, length-map, length-set, take-append-drop, drop_of_length-le}
-use lib.Seq.{append_snoc, get_or-take, get_or-drop, get_or-append-add, take-suc, take_all, set_split, set-get_or, set-append_left}
+use lib.Seq.{get_or-take, get_or-drop, get_or-append-add, take-suc, take_all, set-get_or, set-append_left}
+use lib.Dec.{ltb}
+use borrow.Author.Tests.{ltb-false}
 use lib.Ieee.{Float, ne}
 use Rattle.interp.specs.Span.{span_for}
-use Rattle.session.specs.Lists.{used_of, packed, change_if, change_first}
+use Rattle.session.specs.Lists.{used_of, packed, change_if, change_where, change_first}
 use Rattle.session.specs.declared.Slots.{Slots}
-use Rattle.session.proofs.Walks.{on_first, on_first-step, on_first-at, keep-step}
+use Rattle.session.proofs.Walks.{on_first, on_first-step, keep-step}
 use Rattle.session.proofs.Packing.{Packed, packed-set, packed_none, packed-skip, packed_keep}
-use Rattle.session.proofs.Search.{rest-step}
 use Rattle.player.specs.declared.Cold.{Cold}
 use Rattle.player.specs.declared.Player.{Player}
 use Rattle.player.specs.Pitch.{step_of, with_step, pitched}
@@ -30,45 +32,18 @@ use Rattle.players.proofs.Kept.{in_use, sounding-length}
 abbrev pub places_at : List Player → ℕ → Players
 places_at l n = record { players = l; count = n }
 
--- the players after the first i are done
-abbrev pub done_to : (Player → Player) → ℕ → Players → Players
-done_to f i ps = places_at (on_first f i ps.players) ps.count
+-- the players in use, changed in place by f, each by itself: what stands behind them is as it was
+module _ (ps : Players) (ok : PlayersOk ps) (front back : List Player) (as_many : length front ≡ ps.count) (first : front ≡ take ps.count ps.players)
+    (rest : back ≡ drop ps.count ps.players) where
+  pub in_front : front ≡ sounding ps
+  in_front = first ∙ ap (λ (k : ℕ). take k ps.players) (sym (in_use ps ok))
 
-module _ (f : Player → Player) (ps t : Players) (i : ℕ) (d : Player) (so_far : t ≡ done_to f i ps) where
-  pub walk_step : (q : Player) → q ≡ f (get_or t.players i d) → places_at (set t.players i q) t.count ≡ done_to f (i + 1) ps
-  walk_step q e =
-      ap (λ (x : Player). places_at (set t.players i x) t.count) e
-      ∙ ap (λ (x : Players). places_at (set x.players i (f (get_or x.players i d))) x.count) so_far
-      ∙ ap (λ (l : List Player). places_at l ps.count) (on_first-step f ps.players i d)
-
-  -- a player that stays as it is needs no store
-  pub walk_same : f (get_or t.players i d) ≡ get_or t.players i d → t ≡ done_to f (i + 1) ps
-  walk_same e =
-      ap (λ (l : List Player). places_at l t.count) (sym (set-get_or t.players i d)) ∙ walk_step (get_or t.players i d) (sym e)
-
-  -- the player that comes next is as it was
-  pub untouched : get_or t.players i d ≡ get_or ps.players i d
-  untouched = ap (λ (x : Players). get_or x.players i d) so_far ∙ on_first-at f ps.players i d
-
--- the walk changes the players that p holds of, by g: b is the answer of its test of the next one
-module _ (p : Player → Bool) (g : Player → Player) (ps t : Players) (i : ℕ) (d : Player) (so_far : t ≡ done_to (change_if p g) i ps) (b : Bool)
-    (told : b ≡ p (get_or t.players i d)) where
-  changed : (k : Bool) → b ≡ k → cond k (g (get_or t.players i d)) (get_or t.players i d) ≡ change_if p g (get_or t.players i d)
-  changed k h = ap (λ (x : Bool). cond x (g (get_or t.players i d)) (get_or t.players i d)) (sym h ∙ told)
-
-  pub walk-hit : (q : Player) → b ≡ true → q ≡ g (get_or t.players i d) → places_at (set t.players i q) t.count ≡ done_to (change_if p g) (i + 1) ps
-  walk-hit q h e = walk_step (change_if p g) ps t i d so_far q (e ∙ changed true h)
-
-  pub walk-miss : b ≡ false → t ≡ done_to (change_if p g) (i + 1) ps
-  walk-miss h = walk_same (change_if p g) ps t i d so_far (sym (changed false h))
-
-pub walk-done : (f : Player → Player) (ps t : Players) (i : ℕ) → PlayersOk ps → t ≡ done_to f i ps → i ≤ ps.count → ps.count ≤ i
-    → t ≡ reseat (map f (sounding ps)) ps
-walk-done f ps t i ok so_far p q =
-    let m : length (map f (sounding ps)) ≡ ps.count = length-map (sounding ps) f ∙ sounding-length ps ok in
-    so_far ∙ ap (λ (k : ℕ). done_to f k ps) (le_antisymm p q)
-    ∙ ap (λ (k : ℕ). places_at (map f (take k ps.players) ++ drop ps.count ps.players) ps.count) (sym (in_use ps ok))
-    ∙ ap (λ (k : ℕ). places_at (map f (sounding ps) ++ drop k ps.players) k) (sym m)
+  pub in-place : (f : Player → Player) (ks : List Player) → ks ≡ map f front → places_at (ks ++ back) ps.count ≡ reseat (map f (sounding ps)) ps
+  in-place f ks e =
+      let m : length ks ≡ ps.count = ap length e ∙ length-map front f ∙ as_many in
+      ap (λ (l : List Player). places_at (ks ++ l) ps.count) rest
+      ∙ ap (λ (k : ℕ). places_at (ks ++ drop k ps.players) k) (sym m)
+      ∙ ap (λ (l : List Player). reseat l ps) (e ∙ ap (map f) in_front)
 
 -- a step that stays is the pitch that stays
 pub same-pitch : (p : Player) (note bend : Float) (c : Cold) → c ≡ pitched p.cold note bend → ne c.step p.cold.step ≡ false
@@ -88,13 +63,20 @@ same-pitch p note bend c e h =
         absurd (omega arith)
 
 -- the walk that retunes: c is the next player's part under the new pitch
-module _ (note bend : Float) (ps t : Players) (i : ℕ) (d : Player) (so_far : t ≡ done_to (retuned note bend) i ps) (c : Cold)
-    (told : c ≡ pitched (get_or t.players i d).cold note bend) where
-  pub pitch-moves : (q : Player) → q ≡ with_cold c (get_or t.players i d) → places_at (set t.players i q) t.count ≡ done_to (retuned note bend) (i + 1) ps
-  pitch-moves q e = walk_step (retuned note bend) ps t i d so_far q (e ∙ ap (λ (x : Cold). with_cold x (get_or t.players i d)) told)
+module _ (note bend : Float) (xs ys : List Player) (i : ℕ) (d : Player) (so_far : ys ≡ on_first (retuned note bend) i xs) where
+  module _ (c : Cold) (told : c ≡ pitched (get_or ys i d).cold note bend) where
+    stored : (q : Player) → q ≡ retuned note bend (get_or ys i d) → set ys i q ≡ on_first (retuned note bend) (i + 1) xs
+    stored q e =
+        ap (set ys i) e ∙ ap (λ (l : List Player). set l i (retuned note bend (get_or l i d))) so_far ∙ on_first-step (retuned note bend) xs i d
 
-  pub pitch-stays : ne c.step (get_or t.players i d).cold.step ≡ false → t ≡ done_to (retuned note bend) (i + 1) ps
-  pitch-stays h = walk_same (retuned note bend) ps t i d so_far (same-pitch (get_or t.players i d) note bend c told h)
+    pub pitch-moves : set ys i (with_cold c (get_or ys i d)) ≡ on_first (retuned note bend) (i + 1) xs
+    pitch-moves = stored _ (ap (λ (x : Cold). with_cold x (get_or ys i d)) told)
+
+    pub pitch-stays : ne c.step (get_or ys i d).cold.step ≡ false → set ys i (get_or ys i d) ≡ on_first (retuned note bend) (i + 1) xs
+    pitch-stays h = stored _ (sym (same-pitch (get_or ys i d) note bend c told h))
+
+pub pitch-done : (note bend : Float) (xs ys : List Player) (i : ℕ) → ys ≡ on_first (retuned note bend) i xs → length xs ≤ i → ys ≡ map (retuned note bend) xs
+pitch-done note bend xs ys i so_far h = so_far ∙ rw (take_all i xs h, drop_of_length-le xs {i = i} h) (append-nil (map (retuned note bend) xs))
 
 -- ---- whether a player was ended in its delay
 
@@ -137,13 +119,15 @@ module _ (xs : List Player) (i : ℕ) (d x : Player) (inside : i < length xs) (s
   pub killed-miss : b ≡ false → k ≡ list_any ends (take (i + 1) xs)
   killed-miss h = sym (next false h ∙ or_no k)
 
-pub released-done : (ps t : Players) (i : ℕ) (k : Bool) → PlayersOk ps → t ≡ done_to (change_if hears_gate let_go) i ps → k ≡ list_any ends (take i ps.players)
-    → i ≤ ps.count → ps.count ≤ i → record { players = t; killed = k } ≡ released_all ps
-unfolding released_all
-released-done ps t i k ok e f p q =
-    ap (λ (x : Players). record { players = x; killed = k }) (walk-done (change_if hears_gate let_go) ps t i ok e p q)
-    ∙ ap (λ (x : Bool). record { players = reseat (map (change_if hears_gate let_go) (sounding ps)) ps; killed = x })
-    (f ∙ ap (λ (n : ℕ). list_any ends (take n ps.players)) (le_antisymm p q ∙ sym (in_use ps ok)))
+module _ (ps : Players) (ok : PlayersOk ps) (front back : List Player) (as_many : length front ≡ ps.count) (first : front ≡ take ps.count ps.players)
+    (rest : back ≡ drop ps.count ps.players) where
+  pub released-done : (ks : List Player) → ks ≡ change_where hears_gate let_go front → (k : Bool) → k ≡ list_any ends front
+      → record { players = places_at (ks ++ back) ps.count; killed = k } ≡ released_all ps
+  unfolding released_all
+  released-done ks e k f =
+      ap (λ (x : Players). record { players = x; killed = k }) (in-place ps ok front back as_many first rest (change_if hears_gate let_go) ks e)
+      ∙ ap (λ (x : Bool). record { players = reseat (change_where hears_gate let_go (sounding ps)) ps; killed = x })
+      (f ∙ ap (list_any ends) (in_front ps ok front back as_many first rest))
 
 -- ---- a list of slots that grows
 
@@ -188,12 +172,11 @@ pub slots-step : (xs : List Player) (i : ℕ) (d : Player) → i < length xs
 slots-step xs i d h =
     ap (λ (k : ℕ). slot_numbers (take k xs)) (add-one i) ∙ ap slot_numbers (take-suc xs i d h) ∙ slots-append (take i xs) (get_or xs i d ∷ [])
 
-pub slots-done : (ps : Players) (ys : List ℕ) (i n : ℕ) → Listed (slot_numbers (take i ps.players)) ys i → n ≤ 32 → i ≤ n → n ≤ i
-    → n ≡ used_of 32 ps.count → record { slots = ys; count = n } ≡ slots_from (slot_numbers (sounding ps))
-slots-done ps ys i n h few p q e =
+pub slots-done : (xs : List Player) (ys : List ℕ) (i : ℕ) → Listed (slot_numbers (take i xs)) ys i → length xs ≤ 32 → i ≤ length xs → length xs ≤ i
+    → record { slots = ys; count = length xs } ≡ slots_from (slot_numbers xs)
+slots-done xs ys i h few p q =
     ap (λ (k : ℕ). record { slots = ys; count = k }) (le_antisymm q p)
-    ∙ listed-done (slot_numbers (take i ps.players)) ys i h (slot_numbers (sounding ps))
-    (ap (λ (k : ℕ). slot_numbers (take k ps.players)) (le_antisymm p q ∙ e)) (omega arith)
+    ∙ listed-done (slot_numbers (take i xs)) ys i h (slot_numbers xs) (ap slot_numbers (take_all i xs q)) (omega arith)
 
 -- ---- the players that are over
 
@@ -279,101 +262,102 @@ module _ (ps : Players) (ok : PlayersOk ps) where
       ∙ ap (λ (k : ℕ). set (take k ps.players ++ drop ps.count ps.players) i q) (in_use ps ok)
       ∙ ap (λ (l : List Player). set l i q) (take-append-drop ps.count ps.players))
 
--- no player among the first i is in the slot
-pub record Unmet (k : ℕ) (xs : List Player) (i : ℕ) : Type 0 where
-  pub changed : change_first (in_slot k) off_once xs ≡ take i xs ++ change_first (in_slot k) off_once (drop i xs)
-  pub asked : (q : Player → Bool) → first_is (in_slot k) q xs ≡ first_is (in_slot k) q (drop i xs)
+-- the first element that p holds of stands at i
+met-at : (p : Player → Bool) (xs : List Player) (i : ℕ) (d : Player) → i < length xs → p (get_or xs i d) ≡ true → ((k : ℕ) → k < i → p (get_or xs k d) ≡ false)
+    → ((q : Player → Bool) → first_is p q xs ≡ q (get_or xs i d)) × ((f : Player → Player) → change_first p f xs ≡ set xs i (f (get_or xs i d)))
+met-at p [] i d h e before = let z : ⊥ = omega arith in absurd z
+met-at p (x ∷ xs) zero d h e before = (
+  λ q. ap (λ (t : Bool). cond t (q x) (first_is p q xs)) e,
+  λ f. ap (λ (t : Bool). cond t (f x ∷ xs) (x ∷ change_first p f xs)) e,
+)
+met-at p (x ∷ xs) (suc i) d h e before =
+    let r = met-at p xs i d (omega arith) e (λ k l. before (suc k) (omega arith)) in
+    let not_here : p x ≡ false = before 0 (omega arith) in (
+      λ q. ap (λ (t : Bool). cond t (q x) (first_is p q xs)) not_here ∙ r.0 q,
+      λ f. ap (λ (t : Bool). cond t (f x ∷ xs) (x ∷ change_first p f xs)) not_here ∙ ap (λ (l : List Player). x ∷ l) (r.1 f),
+    )
 
-pub unmet-none : (k : ℕ) (xs : List Player) → Unmet k xs 0
-unmet-none k xs = record { changed = refl; asked = λ q. refl }
+-- p holds of none
+met-none : (p : Player → Bool) (xs : List Player) → length xs ≤ position_or_len p xs
+    → ((q : Player → Bool) → first_is p q xs ≡ false) × ((f : Player → Player) → change_first p f xs ≡ xs)
+met-none p [] h = (λ q. refl, λ f. refl)
+met-none p (x ∷ xs) h = by-case (p x) refl (λ l. met-none p xs l)
+  where
+    by-case : (t : Bool) → p x ≡ t
+        → (length xs ≤ position_or_len p xs → ((q : Player → Bool) → first_is p q xs ≡ false) × ((f : Player → Player) → change_first p f xs ≡ xs))
+        → ((q : Player → Bool) → first_is p q (x ∷ xs) ≡ false) × ((f : Player → Player) → change_first p f (x ∷ xs) ≡ x ∷ xs)
+    by-case true e later =
+        let z : position_or_len p (x ∷ xs) ≡ 0 = ap (λ (t : Bool). cond (not t) (1 + position_or_len p xs) 0) e in
+        let never : ⊥ = omega (arith, h, z) in
+        absurd never
+    by-case false e later =
+        let z : position_or_len p (x ∷ xs) ≡ 1 + position_or_len p xs = ap (λ (t : Bool). cond (not t) (1 + position_or_len p xs) 0) e in
+        let r = later (omega (arith, h, z)) in (
+          λ q. ap (λ (t : Bool). cond t (q x) (first_is p q xs)) e ∙ r.0 q,
+          λ f. ap (λ (t : Bool). cond t (f x ∷ xs) (x ∷ change_first p f xs)) e ∙ ap (λ (l : List Player). x ∷ l) (r.1 f),
+        )
 
-module _ (k : ℕ) (ps : Players) (ok : PlayersOk ps) (i : ℕ) (d : Player) (h : Unmet k (sounding ps) i) (inside : i < ps.count) where
-  here : drop i (sounding ps) ≡ get_or ps.players i d ∷ drop (i + 1) (sounding ps)
-  here = rest-step ps.players (used_of 32 ps.count) (omega (arith, in_use ps ok, ok.few, ok.size)) i d (omega (arith, in_use ps ok))
+not-some : {X : Type 0} {x : X} → ◌≡◌ {A = Option X} (Some x) None → ⊥
+not-some e = cc
 
-  asked_here : (q : Player → Bool) (t : Bool) → in_slot k (get_or ps.players i d) ≡ t
-      → first_is (in_slot k) q (sounding ps) ≡ cond t (q (get_or ps.players i d)) (first_is (in_slot k) q (drop (i + 1) (sounding ps)))
-  asked_here q t e =
-      h.asked q ∙ ap (first_is (in_slot k) q) here
-      ∙ ap (λ (b : Bool). cond b (q (get_or ps.players i d)) (first_is (in_slot k) q (drop (i + 1) (sounding ps)))) e
+past : (p : Player → Bool) (xs : List Player) → position p xs ≡ None → length xs ≤ position_or_len p xs
+past p xs e = by-case (ltb (position_or_len p xs) (length xs)) refl
+  where
+    by-case : (t : Bool) → ltb (position_or_len p xs) (length xs) ≡ t → length xs ≤ position_or_len p xs
+    by-case true h = absurd (not-some (sym (ap (λ (b : Bool). cond b (Some (position_or_len p xs)) None) h) ∙ e))
+    by-case false h = ltb-false (position_or_len p xs) (length xs) h
 
-  changed-here : (t : Bool) → in_slot k (get_or ps.players i d) ≡ t
-      → change_first (in_slot k) off_once (sounding ps)
-      ≡ take i (sounding ps)
-      ++ cond t (off_once (get_or ps.players i d) ∷ drop (i + 1) (sounding ps))
-      (get_or ps.players i d ∷ change_first (in_slot k) off_once (drop (i + 1) (sounding ps)))
-  changed-here t e =
-      h.changed ∙ ap (λ (l : List Player). take i (sounding ps) ++ change_first (in_slot k) off_once l) here
-      ∙ ap (λ (b : Bool). take i (sounding ps) ++ cond b (off_once (get_or ps.players i d) ∷ drop (i + 1) (sounding ps))
-      (get_or ps.players i d ∷ change_first (in_slot k) off_once (drop (i + 1) (sounding ps)))) e
+module _ (k : ℕ) (ps : Players) (ok : PlayersOk ps) where
+  answers : (x : Players) (a b : Bool) → a ≡ first_is (in_slot k) (λ p. p.hot.offed) (sounding ps)
+      → b ≡ first_is (in_slot k) (λ p. not p.hot.offed && p.on_note) (sounding ps)
+      → x ≡ reseat (change_first (in_slot k) off_once (sounding ps)) ps → record { players = x; ignored = a; fires = b } ≡ offed_slot k ps
+  unfolding offed_slot
+  answers x a b f g s =
+      ap (λ (y : Players). record { players = y; ignored = a; fires = b }) s
+      ∙ ap (λ (y : Bool). record { players = reseat (change_first (in_slot k) off_once (sounding ps)) ps; ignored = y; fires = b }) f
+      ∙ ap (λ (y : Bool). record { players = reseat (change_first (in_slot k) off_once (sounding ps)) ps; ignored = first_is (in_slot k) (λ p. p.hot.offed) (sounding ps); fires = y }) g
 
-  at_i : get_or (sounding ps) i d ≡ get_or ps.players i d
-  at_i = get_or-take (used_of 32 ps.count) ps.players i d (omega (arith, in_use ps ok))
+  module _ (i : ℕ) (d : Player) (at : position (in_slot k) (sounding ps) ≡ Some i) where
+    found : (i < length (sounding ps)) × (in_slot k (get_or (sounding ps) i d) ≡ true) × ((j : ℕ) → j < i → in_slot k (get_or (sounding ps) j d) ≡ false)
+    found = position-Some (in_slot k) (sounding ps) i d at
 
-  one_more : (ys : List Player) → take i (sounding ps) ++ (get_or ps.players i d ∷ ys) ≡ take (i + 1) (sounding ps) ++ ys
-  one_more ys =
-      sym (append_snoc (take i (sounding ps)) (get_or ps.players i d) ys)
-      ∙ ap (λ (x : Player). (take i (sounding ps) ++ (x ∷ [])) ++ ys) (sym at_i)
-      ∙ ap (λ (l : List Player). l ++ ys) (sym (take-suc (sounding ps) i d (omega (arith, sounding-length ps ok))))
-      ∙ ap (λ (n : ℕ). take n (sounding ps) ++ ys) (sym (add-one i))
+    pub inside : i < ps.count
+    inside = omega (arith, found.0, sounding-length ps ok)
 
-  pub unmet-next : in_slot k (get_or ps.players i d) ≡ false → Unmet k (sounding ps) (i + 1)
-  unmet-next e = record {
-    changed = changed-here false e ∙ one_more (change_first (in_slot k) off_once (drop (i + 1) (sounding ps)));
-    asked = λ q. asked_here q false e;
-  }
+    at_i : get_or (sounding ps) i d ≡ get_or ps.players i d
+    at_i = get_or-take (used_of 32 ps.count) ps.players i d (omega (arith, in_use ps ok, inside))
 
-  module _ (hit : in_slot k (get_or ps.players i d) ≡ true) where
+    asked : (q : Player → Bool) → first_is (in_slot k) q (sounding ps) ≡ q (get_or ps.players i d)
+    asked q = (met-at (in_slot k) (sounding ps) i d found.0 found.1 found.2).0 q ∙ ap q at_i
+
     changed-one : (q : Player) → q ≡ off_once (get_or ps.players i d)
-        → reseat (change_first (in_slot k) off_once (sounding ps)) ps ≡ places_at (set ps.players i q) ps.count
+        → places_at (set ps.players i q) ps.count ≡ reseat (change_first (in_slot k) off_once (sounding ps)) ps
     changed-one q e =
-        ap (λ (l : List Player). reseat l ps)
-        (changed-here true hit ∙ ap (λ (x : Player). take i (sounding ps) ++ (x ∷ drop (i + 1) (sounding ps))) (sym e)
-        ∙ ap (λ (n : ℕ). take i (sounding ps) ++ (q ∷ drop n (sounding ps))) (add-one i)
-        ∙ sym (set_split (sounding ps) i q (omega (arith, sounding-length ps ok))))
-        ∙ one_set ps ok i q inside
-
-    answers : (q x : Players) (a b : Bool) → x ≡ q → a ≡ first_is (in_slot k) (λ p. p.hot.offed) (sounding ps)
-        → b ≡ first_is (in_slot k) (λ p. not p.hot.offed && p.on_note) (sounding ps)
-        → q ≡ reseat (change_first (in_slot k) off_once (sounding ps)) ps → record { players = x; ignored = a; fires = b } ≡ offed_slot k ps
-    unfolding offed_slot
-    answers q x a b e f g s =
-        ap (λ (y : Players). record { players = y; ignored = a; fires = b }) (e ∙ s)
-        ∙ ap (λ (y : Bool). record { players = reseat (change_first (in_slot k) off_once (sounding ps)) ps; ignored = y; fires = b }) f
-        ∙ ap (λ (y : Bool). record { players = reseat (change_first (in_slot k) off_once (sounding ps)) ps; ignored = first_is (in_slot k) (λ p. p.hot.offed) (sounding ps); fires = y }) g
+        sym (ap (λ (l : List Player). reseat l ps)
+        ((met-at (in_slot k) (sounding ps) i d found.0 found.1 found.2).1 off_once ∙ ap (set (sounding ps) i) (ap off_once at_i ∙ sym e))
+        ∙ one_set ps ok i q inside)
 
     -- it was off already
     pub met-off : (get_or ps.players i d).hot.offed ≡ true → record { players = ps; ignored = true; fires = false } ≡ offed_slot k ps
     met-off off =
         let x = get_or ps.players i d in
-        answers ps ps true false refl
-        (sym off ∙ sym (asked_here (λ p. p.hot.offed) true hit))
-        (ap (λ (b : Bool). not b && x.on_note) (sym off) ∙ sym (asked_here (λ p. not p.hot.offed && p.on_note) true hit))
-        (ap (λ (l : List Player). places_at l ps.count) (sym (set-get_or ps.players i d))
-        ∙ sym (changed-one x (ap (λ (b : Bool). cond b x (turned_off x)) (sym off))))
+        answers ps true false
+        (sym off ∙ sym (asked (λ p. p.hot.offed)))
+        (ap (λ (b : Bool). not b && x.on_note) (sym off) ∙ sym (asked (λ p. not p.hot.offed && p.on_note)))
+        (ap (λ (l : List Player). places_at l ps.count) (sym (set-get_or ps.players i d)) ∙ changed-one x (ap (λ (b : Bool). cond b x (turned_off x)) (sym off)))
 
     -- it is turned off
     pub met-on : (q : Player) → (get_or ps.players i d).hot.offed ≡ false → q ≡ turned_off (get_or ps.players i d)
         → record { players = places_at (set ps.players i q) ps.count; ignored = false; fires = (get_or ps.players i d).on_note } ≡ offed_slot k ps
     met-on q on e =
         let x = get_or ps.players i d in
-        answers (places_at (set ps.players i q) ps.count) _ false x.on_note refl
-        (sym on ∙ sym (asked_here (λ p. p.hot.offed) true hit))
-        (ap (λ (b : Bool). not b && x.on_note) (sym on) ∙ sym (asked_here (λ p. not p.hot.offed && p.on_note) true hit))
-        (sym (changed-one q (e ∙ ap (λ (b : Bool). cond b x (turned_off x)) (sym on))))
+        answers (places_at (set ps.players i q) ps.count) false x.on_note
+        (sym on ∙ sym (asked (λ p. p.hot.offed)))
+        (ap (λ (b : Bool). not b && x.on_note) (sym on) ∙ sym (asked (λ p. not p.hot.offed && p.on_note)))
+        (changed-one q (e ∙ ap (λ (b : Bool). cond b x (turned_off x)) (sym on)))
 
--- no player is in the slot
-pub unmet-done : (k : ℕ) (ps : Players) (i : ℕ) → PlayersOk ps → Unmet k (sounding ps) i → ps.count ≤ i
-    → record { players = ps; ignored = false; fires = false } ≡ offed_slot k ps
-unfolding offed_slot
-unmet-done k ps i ok h q =
-    let m : length (sounding ps) ≡ ps.count = sounding-length ps ok in
-    let none : drop i (sounding ps) ≡ [] = drop_of_length-le (sounding ps) {i = i} (omega arith) in
-    let as_it_was : change_first (in_slot k) off_once (sounding ps) ≡ sounding ps =
-    h.changed ∙ ap (λ (l : List Player). take i (sounding ps) ++ change_first (in_slot k) off_once l) none
-    ∙ append-nil (take i (sounding ps)) ∙ take_all i (sounding ps) (omega arith) in
-    ap (λ (y : Players). record { players = y; ignored = false; fires = false }) (sym (ap (λ (l : List Player). reseat l ps) as_it_was ∙ all-seated ps ok))
-    ∙ ap (λ (y : Bool). record { players = reseat (change_first (in_slot k) off_once (sounding ps)) ps; ignored = y; fires = false })
-    (sym (h.asked (λ p. p.hot.offed) ∙ ap (first_is (in_slot k) (λ p. p.hot.offed)) none))
-    ∙ ap (λ (y : Bool). record { players = reseat (change_first (in_slot k) off_once (sounding ps)) ps; ignored = first_is (in_slot k) (λ p. p.hot.offed) (sounding ps); fires = y })
-    (sym (h.asked (λ p. not p.hot.offed && p.on_note) ∙ ap (first_is (in_slot k) (λ p. not p.hot.offed && p.on_note)) none))
+  -- no player is in the slot
+  pub unmet : position (in_slot k) (sounding ps) ≡ None → record { players = ps; ignored = false; fires = false } ≡ offed_slot k ps
+  unmet e =
+      let none = met-none (in_slot k) (sounding ps) (past (in_slot k) (sounding ps) e) in
+      answers ps false false (sym (none.0 _)) (sym (none.0 _)) (sym (ap (λ (l : List Player). reseat l ps) (none.1 off_once) ∙ all-seated ps ok))

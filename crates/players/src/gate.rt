@@ -1,21 +1,22 @@
 // What a falling gate and an off mark do to the players.
-ghost use Rattle.std.specs.Prelude.{◌≡◌, ◌||◌, ◌<◌};
+ghost use Rattle.std.specs.Prelude.{position, ◌≡◌, ◌&&◌, ◌<◌};
+ghost use Rattle.std.specs.List.{list_any};
+ghost use Rattle.session.specs.Lists.{change_where};
 ghost use Rattle.envelope.specs.declared.EgState.TheVariants.{Done};
 ghost use Rattle.envelope.specs.Envelope.{at_state};
 ghost use Rattle.players.specs.Seats.{PlayersOk};
-ghost use Rattle.players.specs.Gate.{delays, ended_env, with_envelope, plays_on, hears_gate, let_go, released_all, off_time_of, turned_off, offed_slot};
+ghost use Rattle.players.specs.Gate.{delays, ended_env, with_envelope, plays_on, hears_gate, let_go, released_all, off_time_of, turned_off, in_slot, offed_slot};
 
 use super::{Offed, Players, Released};
 use envelope::{EgState, Env};
-use player::{Cold, Player};
+use player::{Cold, Hot, Player};
 use program::region::{LoopMode, OffMode};
 
 // The player's envelope has delay left.
 fn delays(p: Player) -> bool
     ensures { result ≡ delays p }
 {
-    let env = p.hot.env;
-    env.remaining_delay() > 0
+    p.hot.env.remaining_delay() > 0
 }
 
 // The envelope, done at once.
@@ -24,21 +25,12 @@ fn done_env(e: Env) -> Env
 {
     Env {
         state: EgState::Done,
-        value: e.value,
-        start: e.start,
-        delay: e.delay,
-        attack_step: e.attack_step,
-        hold: e.hold,
-        decay_rate: e.decay_rate,
-        sustain: e.sustain,
-        release_rate: e.release_rate,
-        transition_delta: e.transition_delta,
-        free_running: e.free_running,
-        sample_rate: e.sample_rate,
+        ..e
     }
 }
 
 // Released; in its delay, done at once.
+#[tactic(auto, unfolding(crate::specs::Gate::ended_env))]
 fn ended_env(e: Env) -> Env
     ensures { result ≡ ended_env e }
 {
@@ -52,52 +44,49 @@ fn ended_env(e: Env) -> Env
 fn with_envelope(p: Player, env: Env, off: bool) -> Player
     ensures { result ≡ with_envelope env off p }
 {
-    let mut hot = p.hot;
-    hot.env = env;
-    hot.offed = off;
-    let mut q = p;
-    q.hot = hot;
-    q
+    Player {
+        hot: Hot {
+            env,
+            offed: off,
+            ..p.hot
+        },
+        ..p
+    }
 }
 
 // A one-shot plays to its end.
 fn plays_on(mode: LoopMode) -> bool
     ensures { result ≡ plays_on mode }
 {
-    match mode {
-        LoopMode::NoLoop => false,
-        LoopMode::OneShot => true,
-        LoopMode::Continuous => false,
-        LoopMode::Sustain => false,
-    }
+    matches!(mode, LoopMode::OneShot)
 }
 
 // A falling gate reaches players of a note-on that do not play on.
+#[tactic(auto, unfolding(crate::specs::Gate::hears_gate))]
 fn hears_gate(p: Player) -> bool
     ensures { result ≡ hears_gate p }
 {
-    if p.on_note {
-        let cold = p.cold;
-        let mode = cold.loop_mode;
-        return !plays_on(mode);
-    }
-    false
+    p.on_note && !plays_on(p.cold.loop_mode)
 }
 
 fn let_go(p: Player) -> Player
     ensures { result ≡ let_go p }
 {
-    let env = ended_env(p.hot.env);
-    with_envelope(p, env, p.hot.offed)
+    with_envelope(p, ended_env(p.hot.env), p.hot.offed)
 }
 
-fn either(a: bool, b: bool) -> bool
-    ensures { result ≡ a || b }
+// Those that hear the gate are let go; whether one was ended in its delay. The walk stands by itself for the reason that `retune_each` does.
+fn release_each(players: &mut [Player]) -> bool
+    ensures { (players.new ≡ change_where hears_gate let_go players.old) × (result ≡ list_any (λ p. hears_gate p && delays p) players.old) }
 {
-    if a {
-        return true;
+    let mut killed = false;
+    for p in players {
+        if hears_gate(*p) {
+            killed |= delays(*p);
+            *p = let_go(*p);
+        }
     }
-    b
+    killed
 }
 
 // A falling gate: the players of note-ons, save one-shots, are released, or ended in their delay.
@@ -107,16 +96,8 @@ pub fn release_all(ps: Players) -> Released
 {
     let n = ps.count;
     let mut t = ps;
-    let mut killed = false;
-    let mut i: usize = 0;
-    while i < n {
-        let p = t.players[i];
-        if hears_gate(p) {
-            killed = either(killed, delays(p));
-            t.players[i] = let_go(p);
-        }
-        i += 1;
-    }
+    let (players, _) = t.players.split_at_mut(n);
+    let killed = release_each(players);
     Released { players: t, killed }
 }
 
@@ -132,16 +113,22 @@ fn off_time(mode: OffMode, cold: Cold) -> f32
 }
 
 // The player is off, with the release of its off mode.
+#[tactic(auto, unfolding(crate::specs::Gate::turned_off))]
 fn turned_off(p: Player) -> Player
     ensures { result ≡ turned_off p }
 {
-    let env = p.hot.env;
-    let cold = p.cold;
-    let mode = cold.off_mode;
-    let t = off_time(mode, cold);
-    let timed = env.set_release_time(t);
-    let ended = ended_env(timed);
-    with_envelope(p, ended, true)
+    let timed = p
+        .hot
+        .env
+        .set_release_time(off_time(p.cold.off_mode, p.cold));
+    with_envelope(p, ended_env(timed), true)
+}
+
+// Where the first player in the slot stands.
+fn place_of(players: &[Player], slot: u32) -> Option<usize>
+    ensures { result ≡ position (in_slot slot) players.now }
+{
+    players.iter().position(|p| p.slot == slot)
 }
 
 // The off mark of a slot acts.
@@ -149,32 +136,26 @@ pub fn off_slot(ps: Players, slot: u32) -> Offed
     requires { PlayersOk ps }
     ensures { (result ≡ offed_slot slot ps) × PlayersOk result.players }
 {
-    let n = ps.count;
-    let mut i: usize = 0;
-    while i < n {
-        let p = ps.players[i];
-        if p.slot == slot {
-            if p.hot.offed {
-                return Offed {
-                    players: ps,
-                    ignored: true,
-                    fires: false,
-                };
-            }
-            let q = turned_off(p);
-            let mut t = ps;
-            t.players[i] = q;
-            return Offed {
-                players: t,
-                ignored: false,
-                fires: p.on_note,
-            };
-        }
-        i += 1;
+    let Some(i) = place_of(ps.as_slice(), slot) else {
+        return Offed {
+            players: ps,
+            ignored: false,
+            fires: false,
+        };
+    };
+    let p = ps.players[i];
+    if p.hot.offed {
+        return Offed {
+            players: ps,
+            ignored: true,
+            fires: false,
+        };
     }
+    let mut t = ps;
+    t.players[i] = turned_off(p);
     Offed {
-        players: ps,
+        players: t,
         ignored: false,
-        fires: false,
+        fires: p.on_note,
     }
 }

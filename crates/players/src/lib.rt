@@ -4,11 +4,10 @@
 pub mod gate;
 pub mod mix;
 
-ghost use Rattle.std.specs.Prelude.{◌≡◌, ◌<◌};
-ghost use Rattle.session.specs.Lists.{used_of};
+ghost use Rattle.std.specs.Prelude.{◌≡◌, ◌<◌, map};
 ghost use Rattle.std.specs.List.{list_any};
 ghost use Rattle.player.specs.Bounds.{PlayerOk};
-ghost use Rattle.players.specs.Seats.{sounding, PlayersOk, no_env, no_cold, no_player, no_players, seated, slots_from, slot_numbers, with_cold, retuned_all, is_over, reaped};
+ghost use Rattle.players.specs.Seats.{sounding, PlayersOk, no_env, no_cold, no_player, no_players, seated, slots_from, slot_numbers, with_cold, retuned, retuned_all, is_over, reaped};
 
 use envelope::{EgState, Env};
 use filter::FilterShape;
@@ -17,7 +16,7 @@ use interp::sinc::SincSpan;
 use player::pitch::set_pitch;
 use player::{Cold, Hot, Player};
 use program::region::{LoopMode, OffMode};
-use session::Slots;
+use session::{Slots, used};
 
 #[derive(Clone, Copy)]
 pub struct Players {
@@ -105,6 +104,7 @@ fn no_cold() -> Cold
     }
 }
 
+#[tactic(auto, unfolding(crate::specs::Seats::no_player))]
 fn no_player() -> Player
     ensures { result ≡ no_player }
 {
@@ -131,6 +131,7 @@ fn no_player() -> Player
     }
 }
 
+#[tactic(auto, unfolding(crate::specs::Seats::no_players))]
 pub fn no_players() -> Players
     ensures { result ≡ no_players }
 {
@@ -151,52 +152,59 @@ pub fn push(ps: Players, p: Player) -> Players
     t
 }
 
-// How many places are in use: the count, but never past the array.
-fn used(count: usize) -> usize
-    ensures { result ≡ used_of 32 count }
-{
-    if count < 32 { count } else { 32 }
+impl Players {
+    // The players in use, in order.
+    pub fn as_slice(&self) -> &[Player]
+        ensures { result.now ≡ sounding self.now }
+    {
+        let n = used::<32>(self.count);
+        &self.players[..n]
+    }
 }
 
 // The players' slots, in order.
 pub fn slots_of(ps: Players) -> Slots
     ensures { result ≡ slots_from (slot_numbers (sounding ps)) }
 {
-    let n = used(ps.count);
     let mut slots = [0u32; 32];
-    let mut i: usize = 0;
-    while i < n {
-        let p = ps.players[i];
+    let players = ps.as_slice();
+    for (i, p) in players.iter().enumerate() {
         slots[i] = p.slot;
-        i += 1;
     }
-    Slots { slots, count: n }
+    Slots {
+        slots,
+        count: players.len(),
+    }
 }
 
 fn with_cold(p: Player, cold: Cold) -> Player
     ensures { result ≡ with_cold cold p }
 {
-    let mut q = p;
-    q.cold = cold;
-    q
+    Player { cold, ..p }
 }
 
-// Every player at this note and bend. One whose step stays is not stored again.
+// One whose step stays is not stored again. The walk stands by itself: after one over a part of `retune`'s own players the proof lacks what
+// that part is.
+fn retune_each(players: &mut [Player], note_f: f32, bend: f32)
+    ensures { players.new ≡ map (retuned note_f bend) players.old }
+{
+    for p in players {
+        let cold = set_pitch(p.cold, note_f, bend);
+        if cold.step != p.cold.step {
+            p.cold = cold;
+        }
+    }
+}
+
+// Every player at this note and bend.
 pub fn retune(ps: Players, note_f: f32, bend: f32) -> Players
     requires { PlayersOk ps }
     ensures { (result ≡ retuned_all note_f bend ps) × PlayersOk result }
 {
     let n = ps.count;
     let mut t = ps;
-    let mut i: usize = 0;
-    while i < n {
-        let p = t.players[i];
-        let cold = set_pitch(p.cold, note_f, bend);
-        if cold.step != p.cold.step {
-            t.players[i] = with_cold(p, cold);
-        }
-        i += 1;
-    }
+    let (players, _) = t.players.split_at_mut(n);
+    retune_each(players, note_f, bend);
     t
 }
 
@@ -204,24 +212,21 @@ pub fn retune(ps: Players, note_f: f32, bend: f32) -> Players
 fn is_over(p: Player) -> bool
     ensures { result ≡ is_over p }
 {
-    let env = p.hot.env;
-    env.done()
+    p.hot.env.done()
+}
+
+// By itself, over lent players: beside all of them by value the proof of the chain is not found.
+fn some_over(players: &[Player]) -> bool
+    ensures { result ≡ list_any is_over players.now }
+{
+    players.iter().any(|p| is_over(*p))
 }
 
 // Whether some player's envelope is done.
 pub fn any_over(ps: Players) -> bool
     ensures { result ≡ list_any is_over (sounding ps) }
 {
-    let n = used(ps.count);
-    let mut i: usize = 0;
-    while i < n {
-        let p = ps.players[i];
-        if is_over(p) {
-            return true;
-        }
-        i += 1;
-    }
-    false
+    some_over(ps.as_slice())
 }
 
 // Finished players leave; the others keep their order.
@@ -232,18 +237,15 @@ pub fn reap(ps: Players) -> Reaped
     let n = ps.count;
     let mut t = ps;
     let mut slots = [0u32; 32];
-    let mut i: usize = 0;
     let mut j: usize = 0;
     let mut k: usize = 0;
-    while i < n {
-        let at = i;
-        let p = t.players[at];
-        i += 1;
+    for i in 0..n {
+        let p = t.players[i];
         if is_over(p) {
             slots[k] = p.slot;
             k += 1;
         } else {
-            if j < at {
+            if j < i {
                 t.players[j] = p;
             }
             j += 1;

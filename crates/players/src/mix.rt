@@ -38,29 +38,19 @@ pub struct Sounded {
     pub players: Players,
 }
 
-// A place among the frames that are there.
-fn place(at: usize, len: usize) -> usize
-    ensures { result ≡ min at len }
-{
-    if at < len { at } else { len }
-}
-
 fn parts_of(s: Sample, len: usize) -> Parts
     ensures { result ≡ parts_of s len }
 {
     let start = s.start as usize;
     let n = s.frames as usize;
-    let first = place(start, len);
-    let second = place(start + n, len);
-    if s.channels == 2 {
-        let end = place(start + n + n, len);
-        return Parts { first, second, end };
-    }
-    Parts {
-        first,
-        second,
-        end: second,
-    }
+    let first = start.min(len);
+    let second = (start + n).min(len);
+    let end = if s.channels == 2 {
+        (start + n + n).min(len)
+    } else {
+        second
+    };
+    Parts { first, second, end }
 }
 
 // A player's segment with its sample's frames.
@@ -157,8 +147,7 @@ pub fn sound_all(
         count: 0,
     };
     let mut over = false;
-    let mut k: usize = 0;
-    while k < n {
+    for k in 0..n {
         let p = t.players[k];
         let y = sound_one(p, x, samples, frames, table, left, right);
         let q = y.player;
@@ -167,7 +156,6 @@ pub fn sound_all(
             over = true;
         }
         ended = note_end(ended, p.slot, y.ended);
-        k += 1;
     }
     Sounded {
         players: t,

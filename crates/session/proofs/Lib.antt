@@ -8,3 +8,4 @@ pub mod Voices
 pub mod OffTimes
 pub mod Matching
 pub mod Laws
+pub mod InTurn

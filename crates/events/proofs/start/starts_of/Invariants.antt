@@ -1,9 +1,6 @@
-use Rattle.std.proofs.Common.{◌≡◌, ◌-◌, ◌≤◌, length, take}
+use Rattle.std.proofs.Common.{◌≡◌, ◌≤◌, length, take}
 use Rattle.events.specs.Start.{starts_of}
 use Rattle.events.proofs.start.starts_of.Given as goal
 
 abbrev pub invariant-loop-i : goal.invariant-loop-i
-invariant-loop-i l = (l.i ≤ l.n) × (l.n ≤ 256) × (length l.chosen.regions ≡ 256) × (length l.starts ≡ 256) × (take l.i l.starts ≡ starts_of l.words l.id l.ns l.c (take l.i l.chosen.regions))
-
-abbrev pub decreases-loop-i : goal.decreases-loop-i
-decreases-loop-i l = l.n - l.i
+invariant-loop-i l = (length l.regions ≤ 256) × (length l.starts ≡ 256) × (take l.i l.starts ≡ starts_of l.words l.id l.ns l.c (take l.i l.regions))

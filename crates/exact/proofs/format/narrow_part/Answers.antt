@@ -1,9 +1,9 @@
-use Rattle.std.proofs.Common.{T, sym, subst}
-use Rattle.exact.proofs.Narrowing.{no_nan, small-no-nan, done-plus}
+use Rattle.std.proofs.Common.{Bool, not, T, ◌∙◌, sym, subst}
+use Rattle.exact.proofs.Narrowing.{small-no-nan, done-plus}
 use Rattle.exact.proofs.format.narrow_part.Goals as goal
 
 pub float_to_bits-bits : goal.float_to_bits-bits
-float_to_bits-bits c = no_nan c.args.x c.if-x.false
+float_to_bits-bits c = subst (λ (b : Bool). T (not b)) (sym (sym c.is_nan.ensures.value ∙ c.if-is_nan.false)) tt
 
 pub float_from_bits-result : goal.float_from_bits-result
 float_from_bits-result c = small-no-nan c.part_bits.result c.part_bits.ensures.1

@@ -1,4 +1,4 @@
-use Rattle.std.proofs.Common.{rules}
+use Rattle.std.proofs.Common.{sym, ◌∙◌, rules}
 use lib.Ieee.{of_bits}
 use Rattle.exact.proofs.Extreme.{max-first, max-second, max-other, max-zeros, max-same}
 use Rattle.exact.proofs.order.max_f32.Goals as goal
@@ -9,13 +9,13 @@ returns-then-x-y c = max-second c.args.x c.args.y c.if-x-y.true
 pub returns-then-y-x : goal.returns-then-y-x
 returns-then-y-x c = max-first c.args.x c.args.y c.if-y-x.true
 
-pub returns-then-x : goal.returns-then-x
-returns-then-x c = max-other c.args.x c.args.y c.if-x.true
+pub returns-then-is_nan : goal.returns-then-is_nan
+returns-then-is_nan c = max-other c.args.x c.args.y (sym c.is_nan.ensures.value ∙ c.if-is_nan.true)
 
 pub returns-then-y : goal.returns-then-y
 unfolding of_bits
-returns-then-y c = max-zeros c.args.x c.args.y (search rules) (search rules) c.if-x-y.false c.if-y-x.false c.if-x.false c.if-y.true
+returns-then-y c = max-zeros c.args.x c.args.y (search rules) (search rules) c.if-x-y.false c.if-y-x.false (sym c.is_nan.ensures.value ∙ c.if-is_nan.false) c.if-y.true
 
 pub returns : goal.returns
 unfolding of_bits
-returns c = max-same c.args.x c.args.y c.if-x-y.false c.if-x.false c.if-y.false
+returns c = max-same c.args.x c.args.y c.if-x-y.false (sym c.is_nan.ensures.value ∙ c.if-is_nan.false) c.if-y.false

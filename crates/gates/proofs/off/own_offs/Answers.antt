@@ -1,21 +1,24 @@
-use borrow.Author.Tests.{not-false, not-true}
-use Prim.Native.Nat.{◌-◌}
-use mathlib.Core.Path.{refl}
-use native.Mathlib.Omega.{arith}
+use Rattle.std.proofs.Common.{refl, subst, arith, IfSome, Option}
+use Rattle.players.specs.Seats.{PlayersOk}
+use Rattle.events.specs.declared.Both.{Both}
 use Rattle.gates.proofs.Turns.{turn_on, turn-over, turn-stop}
 use Rattle.gates.proofs.off.own_offs.Goals as goal
 
-pub loop-k-init : goal.loop-k-init
-loop-k-init c = (omega arith, refl, c.requires.0)
+pub loop-init : goal.loop-init
+loop-init c = (omega arith, refl, c.requires.0)
 
-pub took_own-t-requires : goal.took_own-t-requires
-took_own-t-requires c = (c.loop-k.invariant.2, c.requires.1, c.requires.2)
+pub took_own-requires : goal.took_own-requires
+took_own-requires c = (c.loop.invariant.2, c.requires.1, c.requires.2)
 
-pub returns-then-not-t : goal.returns-then-not-t
-returns-then-not-t c = (turn-stop _ _ _ _ _ _ c.loop-k.invariant.1 _ c.took_own-t.ensures.0 (not-true _ c.if-not-t.true), c.loop-k.invariant.2)
+pub returns-in_default : goal.returns-in_default
+returns-in_default c = (turn-stop _ _ _ _ _ _ c.loop.invariant.1 _ c.took_own.ensures.0 c.in_default.is, c.loop.invariant.2)
 
-pub loop-k-preserved : goal.loop-k-preserved
-loop-k-preserved c = (omega arith, turn_on _ _ _ _ _ _ c.loop-k.invariant.1 _ c.took_own-t.ensures.0 (omega arith) (not-false _ c.if-not-t.false), c.took_own-t.ensures.1)
+pub loop-preserved : goal.loop-preserved
+loop-preserved c = (
+  omega arith,
+  turn_on _ _ _ _ _ _ c.loop.invariant.1 _ c.took_own.ensures.0 _ (omega arith) c.in-Some.is,
+  subst (λ (r : Option Both). IfSome r (λ x. PlayersOk x.voice.players)) c.in-Some.is c.took_own.ensures.1,
+)
 
 pub returns : goal.returns
-returns c = (turn-over _ _ _ _ _ _ c.loop-k.invariant.1 (omega arith), c.loop-k.invariant.2)
+returns c = (turn-over _ _ _ _ _ _ c.loop.invariant.1 (omega arith), c.loop.invariant.2)

@@ -1,4 +1,3 @@
-use Prim.Native.Nat.{◌-◌}
 use mathlib.Core.Path.{refl, sym, ◌∙◌}
 use native.Mathlib.Omega.{arith}
 use Rattle.players.proofs.Bands.{over-hit, over-miss, going-none, going_fine, going-room, going_on, going-ok, going-over, going_done}
@@ -26,12 +25,6 @@ bounds-t-k-in-loop-k c = omega (arith, c.requires.0.few, c.loop-k-test.true, c.l
 
 pub note_end-ended-requires : goal.note_end-ended-requires
 note_end-ended-requires c = going-room _ _ _ _ _ _ _ _ _ _ _ c.loop-k.invariant.3 (omega (arith, c.requires.0.few, c.loop-k-test.true))
-
-pub overflow_add-k : goal.overflow_add-k
-overflow_add-k c = record { fits = omega (arith, c.requires.0.few, c.loop-k-test.true) }
-
-pub loop-k-smaller : goal.loop-k-smaller
-loop-k-smaller c = omega (arith, c.loop-k-test.true)
 
 pub loop-k-preserved : goal.loop-k-preserved
 loop-k-preserved c = let b = c.loop-k in

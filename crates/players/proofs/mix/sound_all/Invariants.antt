@@ -1,4 +1,4 @@
-use Prim.Native.Nat.{◌-◌, ◌≤◌}
+use Prim.Native.Nat.{◌≤◌}
 use mathlib.Core.Path.{◌≡◌}
 use lib.ListN.{length}
 use Rattle.players.proofs.Bands.{Going}
@@ -6,6 +6,3 @@ use Rattle.players.proofs.mix.sound_all.Given as goal
 
 abbrev pub invariant-loop-k : goal.invariant-loop-k
 invariant-loop-k l = (l.k ≤ l.n) × (length l.right ≡ length l.left) × (length l.left ≡ length l.initial.left) × Going (record { samples = l.samples; frames = l.frames; table = l.table }) l.x l.initial.t l.initial.left l.initial.right l.k l.t l.ended l.over l.left l.right
-
-abbrev pub decreases-loop-k : goal.decreases-loop-k
-decreases-loop-k l = l.n - l.k
