@@ -22,13 +22,15 @@ fn set_input(inputs: &mut [f32], input: Input, set: Set) {
     }
 }
 
-// What a line does to the inputs, and which are connected then.
+// What a line does to the inputs, and which are connected then. One that is disconnected holds zeros.
 pub fn connect(inputs: &mut [f32], was: Connected, d: Line) -> Connected {
     let Line::Input { input, set } = d else {
         return was;
     };
-    if let Some(s) = set {
-        set_input(inputs, input, s);
-    }
+    let zeros = Set {
+        frame: 0,
+        value: 0.0,
+    };
+    set_input(inputs, input, set.unwrap_or(zeros));
     connected_after(was, input, set.is_some())
 }
