@@ -10,7 +10,7 @@ cat >"$work/crates.txt" <<'LIST'
 exact:
 elementary: exact
 program: exact
-filter:
+filter: exact
 gain: exact elementary program
 filter_design: exact elementary filter program gain
 gain_calls staticlib: exact elementary program filter gain filter_design

@@ -7,7 +7,7 @@ here=$PWD
 work=$here/target/compare/kernel
 # what the driver calls: a crate of its own, outside the gate
 compare/tree.sh "$here" "$work" kernel_calls compare/kernel exact filter interp
-printf 'exact:\nfilter:\ninterp: exact\nkernel_calls staticlib: exact filter interp\n' >"$work/crates.txt"
+printf 'exact:\nfilter: exact\ninterp: exact\nkernel_calls staticlib: exact filter interp\n' >"$work/crates.txt"
 (cd "$work/crates/kernel_calls" && rt lib) >&2
 export RUST_SRC="$here/../shared/docs/src/src" KERNEL_LIB_DIR="$work/crates/kernel_calls/out"
 exec cargo run --offline --release -q --manifest-path compare/kernel/Cargo.toml --target-dir "$work/cargo" -- "$@"

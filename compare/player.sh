@@ -12,7 +12,7 @@ exact:
 elementary: exact
 program: exact
 envelope: exact elementary program
-filter:
+filter: exact
 interp: exact
 lanes: exact interp
 gain: exact elementary program

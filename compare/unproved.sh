@@ -1,35 +1,30 @@
 #!/bin/sh
-# compare/unproved.sh ROOT NAME OUT: builds the program NAME of the repository ROOT as OUT without a proof, at -O3, as `rt try` does: for
-# broken copies, which nothing could prove. It needs the kit.
+# compare/unproved.sh ROOT NAME OUT: builds the program NAME of the repository ROOT as OUT without a proof, at -O3: for broken copies, which
+# nothing could prove. `rt try` compiles a program for its checked run; here it finds a compiler that works at -O3 and keeps what it
+# makes. It needs the kit and cc.
 set -eu
-root=$1 name=$2
+root=$(cd "$1" && pwd) name=$2
 out=$(cd "$(dirname "$3")" && pwd)/$(basename "$3")
 kit=$(dirname "$(dirname "$(readlink -f "$(command -v rt)")")")
-own=$kit/on/$(uname -m)
 work=$(mktemp -d)
 trap 'rm -rf "$work"' EXIT
-# the kit's tools, with a linker that keeps what it links: at -O0, at -O3, and with LLVM's assumptions checked
-mkdir -p "$work/tools/bin" "$work/kept"
-ln -s "$own/toolchain/lib" "$work/tools/lib"
-for t in clang llvm-ar; do ln -s "$own/toolchain/bin/$t" "$work/tools/bin/$t"; done
-cat >"$work/tools/bin/ld.lld" <<LINK
+# rt takes the kit that it lies in: this one differs in its compiler alone
+mkdir -p "$work/kit/bin" "$work/kit/toolchain/bin"
+for f in "$kit"/*; do case ${f##*/} in bin | toolchain) ;; *) ln -s "$f" "$work/kit" ;; esac; done
+for f in "$kit"/bin/*; do case ${f##*/} in rt | rtlib.py) cp "$f" "$work/kit/bin" ;; *) ln -s "$f" "$work/kit/bin" ;; esac; done
+ln -s "$kit/toolchain/lib" "$work/kit/toolchain"
+for f in "$kit"/toolchain/bin/*; do [ "${f##*/}" = clang ] || ln -s "$f" "$work/kit/toolchain/bin"; done
+cat >"$work/kit/toolchain/bin/clang" <<CLANG
 #!/bin/sh
-"$own/toolchain/bin/ld.lld" "\$@" || exit
-while [ "\$1" != -o ]; do shift; done
-cp "\$2" "$work/kept/\$(ls "$work/kept" | wc -l)"
-LINK
-chmod +x "$work/tools/bin/ld.lld"
-# in source form a module may not have a crate's name
-cp -r "$root/crates" "$root/crates.txt" "$work"
-cd "$work"
-if [ -f crates/lines/src/block.rt ]; then
-    mv crates/lines/src/block.rt crates/lines/src/block_lines.rt
-    sed -i 's/^pub mod block;/pub mod block_lines;/; s/lines::block::/lines::block_lines::/; s/super::block::/super::block_lines::/' \
-        crates/lines/src/*.rt $(grep -rl 'lines::block::' crates --include='*.rt')
-fi
-set -- --toolchain "$work/tools" "crates/$name/src/main.rt" --crate-name "$name" --lib "std=$kit/libs/std/src/lib.rt"
-for d in $(sed -n "s/^$name: *//p" crates.txt); do
-    if [ -d "crates/$d" ]; then set -- "$@" --lib "$d=crates/$d/src/lib.rt"; else set -- "$@" --lib "$d=$kit/libs/$d/src/lib.rt"; fi
+"$kit/toolchain/bin/clang" "\$@" || exit
+for w in "\$@"; do
+    shift
+    case \$w in -O0) w=-O3 ;; -fsanitize=*) continue ;; module.o) w=$work/program.o ;; esac
+    set -- "\$@" "\$w"
 done
-"$own/bin/rattle-cases" "$@" </dev/null >"$work/said" 2>&1 || { cat "$work/said" >&2; exit 1; }
-mv "$work/kept/1" "$out"
+exec "$kit/toolchain/bin/clang" "\$@"
+CLANG
+chmod +x "$work/kit/toolchain/bin/clang"
+# the run itself does not matter, and may want more stack than it is given
+(cd "$root/crates/$name" && "$work/kit/bin/rt" try </dev/null) >"$work/said" 2>&1 || [ -f "$work/program.o" ] || { cat "$work/said" >&2; exit 1; }
+cc -pie "$work/program.o" "$kit/c/libos_c.a" "$kit/c/liblibc_c.a" -lm -o "$out"

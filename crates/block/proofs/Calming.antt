@@ -1,6 +1,7 @@
 -- A block without events: no off time of the voice waits, and the gate stays. Its players are tuned, and all frames are one part. Assumes
 -- nothing.
 use Rattle.std.specs.List.{list_any, range_with_len}
+use Rattle.std.specs.Option.{unwrap_or}
 use Rattle.std.proofs.Common.{None, Option, Some, cond, filter, ◌||◌}
 use Prim.Native.Nat.{ℕ, ◌-◌, ◌<◌, ◌≤◌}
 use mathlib.Core.Path.{◌≡◌, refl, sym, ap, ◌∙◌}
@@ -26,22 +27,21 @@ use Rattle.session.proofs.Relist.{relist-view}
 use Rattle.note.specs.Note.{note_of}
 use Rattle.note.specs.declared.NoteState.{NoteState}
 use Rattle.players.specs.Mix.{Sounds, Mixture, tuned_all, played_all}
-use Rattle.players.specs.Seats.{sounding, is_over, PlayersOk}
-use Rattle.players.specs.declared.Mixed.{Mixed}
+use Rattle.players.specs.Seats.{sounding, is_over, retuned_all, PlayersOk}
+use Rattle.players.specs.Mix.{Mixed}
 use Rattle.players.specs.declared.Players.{Players}
-use Rattle.players.specs.declared.mix.Tune.{Tune}
+use Rattle.players.specs.declared.Tune.{Tune}
 use Rattle.gates.specs.Off.{reaped_both}
 use Rattle.events.specs.Voice.{with_players}
 use Rattle.events.specs.declared.SampleVoice.{SampleVoice}
 use Rattle.gates.proofs.Turns.{reap-none}
 use Rattle.block.specs.declared.BlockTime.{BlockTime}
-use Rattle.block.specs.declared.Connected.{Connected}
-use Rattle.block.specs.Inputs.{Lent, Cues, cues_of, sounds_of, input_at, bend_of}
+use Rattle.block.specs.Inputs.{Signals, Lent, Cues, cues_of, sounds_of, input_at, bend_of}
 use Rattle.block.specs.Render.{Scene, put_at, part, after_part, scene_after, mixture_of, rendered_to}
 use Rattle.block.specs.Block.{retuned_for, retuned_voice, started_block, block_start, event_on, frame_turn, frames_turned, sounded_from, amplified, Played, played_of, played_block}
 use Rattle.block.specs.Calm.{tune_of, calm_part, settled}
 use Rattle.block.specs.Next.{next_gate, next_off, next_event}
-use Rattle.block.proofs.Firsts.{skip-to, none_yet, first-event}
+use Rattle.block.proofs.Firsts.{skip-to, find_nothing, first_event}
 use Rattle.block.proofs.Framing.{still}
 
 -- ---- the session
@@ -68,16 +68,16 @@ none-collected id s size few own =
 -- ---- the voice
 
 -- the pitch that the block sets is how it tunes the players
-tuned-is : (c : Connected) (fs bs : List Float) (v : SampleVoice) (m : Option NoteState) → retuned_for c fs bs m v ≡ with_players (tuned_all (tune_of m c fs bs) v.players) v
+tuned-is : (ins : Signals) (v : SampleVoice) (m : Option NoteState) → retuned_for ins m v ≡ with_players (tuned_all (tune_of m ins) v.players) v
 unfolding tuned_all tune_of
-tuned-is c fs bs v None = refl
-tuned-is c fs bs v (Some n) = refl
+tuned-is ins v None = refl
+tuned-is ins v (Some n) = refl
 
 -- ---- the frames
 
 -- where no event comes, the frames pass
 no-event : (c : Cues) (sc : Scene)
-    → next_event c.time sc.playing.offs sc.playing.voice.gate_prev c.connected.gate c.gate 0 ≡ c.time.frames
+    → next_event c.time sc.playing.offs sc.playing.voice.gate_prev c.inputs.gate 0 ≡ c.time.frames
     → frames_turned c sc ≡ sc
 unfolding frames_turned next_event
 no-event c sc e =
@@ -87,12 +87,13 @@ no-event c sc e =
     ∙ ap (λ k. foldl (frame_turn c) sc (range_with_len c.time.frames k)) none
 
 -- no off time, and no turn of the gate
-no-next : (t : BlockTime) (prev gated : Bool) (gate : List Float) → next_gate prev gated gate 0 t.frames ≡ t.frames
-    → next_event t (offs_of []) prev gated gate 0 ≡ t.frames
+no-next : (t : BlockTime) (prev : Bool) (gate : Option (List Float)) → next_gate prev gate 0 t.frames ≡ None
+    → next_event t (offs_of []) prev gate 0 ≡ t.frames
 unfolding next_off
-no-next t prev gated gate e =
-    let f : next_off t (offs_of []) 0 ≡ t.frames = sym (none_yet t (offs_of []).offs 0 t.frames (omega arith)) in
-    omega (arith, first-event t (offs_of []) prev gated gate 0, f, e)
+no-next t prev gate e =
+    let f : unwrap_or (next_off t (offs_of []) 0) t.frames ≡ t.frames = ap (λ o. unwrap_or o t.frames) (find_nothing (range_with_len 0 (t.frames - 0))) in
+    let g : unwrap_or (next_gate prev gate 0 t.frames) t.frames ≡ t.frames = ap (λ o. unwrap_or o t.frames) e in
+    omega (arith, first_event t (offs_of []) prev gate 0 (omega arith), f, g)
 
 -- the block before its first frame: session and voice, no off time, and clear outputs
 abbrev pub standing : Lent → Session → SampleVoice → Scene
@@ -104,22 +105,22 @@ standing l s v = record {
 
 -- the voice as the block tunes it
 abbrev pub tuned_voice : Lent → SampleVoice → SampleVoice
-tuned_voice l v = with_players (tuned_all (tune_of v.note l.connected l.freq l.bend) v.players) v
+tuned_voice l v = with_players (tuned_all (tune_of v.note l.inputs) v.players) v
 
 -- without events the frames are one part
 pub eventless : (l : Lent) (s : Session) (v : SampleVoice) → length s.players ≡ 512 → s.count ≤ 512 → list_any (waits v.voice) (view s) ≡ false
-    → next_gate v.gate_prev l.connected.gate l.gate 0 l.time.frames ≡ l.time.frames
+    → next_gate v.gate_prev l.inputs.gate 0 l.time.frames ≡ None
     → played_block l s v ≡ played_of l (rendered_to (sounds_of (cues_of l)) l.time.frames (standing l s (tuned_voice l v)))
 unfolding played_block sounded_from block_start started_block retuned_voice
 eventless l s v size few own stays =
     let n = l.time.frames in
     let zs : List Float = replicate l.time.frames f0 in
-    ap (λ (o : Collected). played_of l (rendered_to (sounds_of (cues_of l)) n (frames_turned (cues_of l) (record { playing = record { session = o.session; voice = retuned_for l.connected l.freq l.bend v.note v; offs = o.offs; from = 0 }; left = zs; right = zs }))))
+    ap (λ (o : Collected). played_of l (rendered_to (sounds_of (cues_of l)) n (frames_turned (cues_of l) (record { playing = record { session = o.session; voice = retuned_for l.inputs v.note v; offs = o.offs; from = 0 }; left = zs; right = zs }))))
     (none-collected v.voice s size few own)
     ∙ ap (λ (w : SampleVoice). played_of l (rendered_to (sounds_of (cues_of l)) n (frames_turned (cues_of l) (standing l s w))))
-    (tuned-is l.connected l.freq l.bend v v.note)
+    (tuned-is l.inputs v v.note)
     ∙ ap (λ (sc : Scene). played_of l (rendered_to (sounds_of (cues_of l)) n sc))
-    (no-event (cues_of l) (standing l s (tuned_voice l v)) (no-next l.time v.gate_prev l.connected.gate l.gate stays))
+    (no-event (cues_of l) (standing l s (tuned_voice l v)) (no-next l.time v.gate_prev l.inputs.gate stays))
 
 -- ---- the part
 
@@ -134,8 +135,8 @@ module _ (l : Lent) (s : Session) (v : SampleVoice) where
   abbrev settled_block : Mixed → List Float → List Float → Played
   settled_block m ls rs = record {
     both = settled m.ended (record { session = s; voice = with_players m.players v });
-    left = amplified l.connected.amp l.amp ls;
-    right = amplified l.connected.amp l.amp rs;
+    left = amplified l.inputs.amp ls;
+    right = amplified l.inputs.amp rs;
   }
 
   rendered : (x : Sounds) → 0 < l.time.frames
@@ -154,9 +155,9 @@ module _ (l : Lent) (s : Session) (v : SampleVoice) where
 -- ---- the block
 
 pub calm-is : (l : Lent) (s : Session) (v : SampleVoice) → length s.players ≡ 512 → s.count ≤ 512 → list_any (waits v.voice) (view s) ≡ false
-    → 0 < l.time.frames → next_gate v.gate_prev l.connected.gate l.gate 0 l.time.frames ≡ l.time.frames
+    → 0 < l.time.frames → next_gate v.gate_prev l.inputs.gate 0 l.time.frames ≡ None
     → played_block l s v
-    ≡ (let m = calm_part (sounds_of (cues_of l)) (tune_of v.note l.connected l.freq l.bend) l.connected.amp l.amp v.players l.time.frames in
+    ≡ (let m = calm_part (sounds_of (cues_of l)) (tune_of v.note l.inputs) l.inputs.amp v.players l.time.frames in
     record { both = settled m.mixed.ended (record { session = s; voice = with_players m.mixed.players v }); left = m.left; right = m.right })
 unfolding calm_part
 calm-is l s v size few own some stays = eventless l s v size few own stays ∙ rendered l s (tuned_voice l v) (sounds_of (cues_of l)) some
@@ -171,26 +172,25 @@ calm-stays e s v ok none on =
 
 -- ---- what the functions do, step by step
 
-module _ (c : Connected) (fs bs : List Float) (m : Option NoteState) where
-  pub tune-none : m ≡ None → record { on = false; note_f = f0; bend = f0 } ≡ tune_of m c fs bs
-  unfolding tune_of
-  tune-none e = sym (ap (λ (k : Option NoteState). tune_of k c fs bs) e)
+module _ (ins : Signals) (v : SampleVoice) where
+  pub tuned-none : None ≡ tune_of v.note ins → v ≡ retuned_voice ins v
+  unfolding retuned_voice tuned_all
+  tuned-none e = ap (λ (t : Option Tune). with_players (tuned_all t v.players) v) e ∙ sym (tuned-is ins v v.note)
 
-  pub tune-some : (n : NoteState) → m ≡ Some n → (f : Float) → f ≡ input_at c.freq fs 0 f0 → (b : Float) → b ≡ input_at c.bend bs 0 f0
-      → (d : Float) → d ≡ bend_of b → (x : Float) → x ≡ note_of f n.note_f → record { on = true; note_f = x; bend = d } ≡ tune_of m c fs bs
-  unfolding tune_of
-  tune-some n e f ef b eb d ed x ex =
-      ap (λ (y : Float). record { on = true; note_f = y; bend = d }) (ex ∙ ap (λ (g : Float). note_of g n.note_f) ef)
-      ∙ ap (λ (y : Float). record { on = true; note_f = note_of (input_at c.freq fs 0 f0) n.note_f; bend = y }) (ed ∙ ap bend_of eb)
-      ∙ sym (ap (λ (k : Option NoteState). tune_of k c fs bs) e)
+  pub tuned-some : (t : Tune) → Some t ≡ tune_of v.note ins → (ps : Players) → ps ≡ retuned_all t.note_f t.bend v.players
+      → (w : SampleVoice) → w ≡ with_players ps v → w ≡ retuned_voice ins v
+  unfolding retuned_voice tuned_all
+  tuned-some t e ps eps w ew =
+      ew ∙ ap (λ (p : Players). with_players p v) eps
+      ∙ ap (λ (x : Option Tune). with_players (tuned_all x v.players) v) e ∙ sym (tuned-is ins v v.note)
 
-module _ (x : Sounds) (t : Tune) (on : Bool) (amp : List Float) (ps : Players) (n : ℕ) where
+module _ (x : Sounds) (t : Option Tune) (amp : Option (List Float)) (ps : Players) (n : ℕ) where
   pub part-is : (ls rs : List Float) → ls ≡ replicate n f0 → rs ≡ replicate n f0 → (m : Mixture) → m ≡ played_all x (tuned_all t ps) ls rs
-      → (fs gs : List Float) → fs ≡ amplified on amp m.left → gs ≡ amplified on amp m.right
-      → ◌≡◌ {A = Mixture} (record { mixed = m.mixed; left = fs; right = gs }) (calm_part x t on amp ps n)
+      → (fs gs : List Float) → fs ≡ amplified amp m.left → gs ≡ amplified amp m.right
+      → ◌≡◌ {A = Mixture} (record { mixed = m.mixed; left = fs; right = gs }) (calm_part x t amp ps n)
   unfolding calm_part
   part-is ls rs el er m em fs gs ea eb =
       ap (λ (z : List Float). record { mixed = m.mixed; left = z; right = gs }) ea
-      ∙ ap (λ (z : List Float). record { mixed = m.mixed; left = amplified on amp m.left; right = z }) eb
-      ∙ ap (λ (k : Mixture). record { mixed = k.mixed; left = amplified on amp k.left; right = amplified on amp k.right })
+      ∙ ap (λ (z : List Float). record { mixed = m.mixed; left = amplified amp m.left; right = z }) eb
+      ∙ ap (λ (k : Mixture). record { mixed = k.mixed; left = amplified amp k.left; right = amplified amp k.right })
       (em ∙ ap (λ (z : List Float). played_all x (tuned_all t ps) z rs) el ∙ ap (played_all x (tuned_all t ps) (replicate n f0)) er)

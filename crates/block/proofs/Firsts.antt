@@ -1,18 +1,20 @@
 -- The first frame that a test holds of, and frames before it. Assumes nothing.
-use Rattle.std.specs.List.{list_any, range_with_len}
-use Rattle.std.specs.Prelude.{cond}
+use Rattle.std.specs.List.{All, filter, find, list_any, range_with_len, reduce}
+use Rattle.std.specs.Option.{unwrap_or}
+use Rattle.std.specs.Prelude.{cond, fold, None, Option, Some}
+use Rattle.std.proofs.lemmas.List.Elements.{All-nil, All-cons, All-head, All-tail}
 use Prim.Native.Nat.{ℕ, zero, suc, ◌+◌, ◌-◌, ◌<◌, ◌≤◌, min}
-use mathlib.Core.Path.{◌≡◌, refl, sym, ap, ◌∙◌}
-use mathlib.Core.Bool.{Bool, true, false, ◌||◌}
+use mathlib.Core.Path.{◌≡◌, refl, sym, ap, ◌∙◌, subst}
+use mathlib.Core.Bool.{Bool, true, false, ◌||◌, true≢false}
 use mathlib.Core.Logic.{⊎_elim}
-use mathlib.Core.List.{List, [], ◌∷◌, ◌++◌, foldl}
+use mathlib.Core.List.{List, [], ◌∷◌, ◌++◌, foldl, map}
 use native.Mathlib.Omega.{arith}
 use native.Mathlib.Nat.{eq-or-lt_of_le}
 use native.Mathlib.Numerals.{add-one}
 use lib.ListN.{length, take, get_or}
 use lib.Seq.{take-suc}
-use lib.Dec.{ltb, eqb}
-use borrow.Author.Tests.{ltb-true, ltb-false, eqb-true, eqb-false, ne_eqb}
+use lib.Dec.{leb, eqb}
+use borrow.Author.Tests.{leb-true, leb-false, eqb-true, eqb-false}
 use Rattle.session.specs.Offs.{first_at}
 use Rattle.session.specs.declared.Off.{Off}
 use Rattle.block.specs.declared.BlockTime.{BlockTime}
@@ -20,7 +22,7 @@ use lib.Ieee.{Float}
 use Rattle.session.specs.declared.Offs.{Offs}
 use Rattle.block.specs.Inputs.{off_frame, gate_at}
 use Rattle.block.specs.Block.{falls_on, off_list, turns, has_event}
-use Rattle.block.specs.Next.{first_from, earlier_of, next_gate, next_off, next_event}
+use Rattle.block.specs.Next.{first_from, next_gate, next_off, next_event}
 
 -- ---- a loop that looks for the first one
 
@@ -105,66 +107,135 @@ first-true p from n h =
     ap p (sym (index_at from (n - from) (first_at p (range_with_len from (n - from))) 0 (omega arith)))
     ∙ first_holds p (range_with_len from (n - from)) 0 (omega arith)
 
--- ---- the frame of one off time
+-- ---- the first frame, and where there is none the length
 
-found-one : (f i k : ℕ) → i ≤ f → f < i + k → i + first_at (eqb f) (range_with_len i k) ≡ f
-found-one f i zero a b = absurd (omega arith)
-found-one f i (suc k) a b = by-case (eqb f i) refl (found-one f (i + 1) k) where
-  by-case : (t : Bool) → eqb f i ≡ t → (i + 1 ≤ f → f < i + 1 + k → i + 1 + first_at (eqb f) (range_with_len (i + 1) k) ≡ f)
-      → i + cond t zero (suc (first_at (eqb f) (range_with_len (i + 1) k))) ≡ f
-  by-case true e rest = let h : f ≡ i = eqb-true f i e in omega arith
-  by-case false e rest =
-      let u : i + 1 ≤ f = ⊎_elim (λ g. absurd (eqb-false f i e (sym g))) (λ g. omega arith) (eq-or-lt_of_le a) in
-      omega (arith, rest u (omega arith))
+found-is : (p : ℕ → Bool) (i k : ℕ) → unwrap_or (find p (range_with_len i k)) (i + k) ≡ i + first_at p (range_with_len i k)
+found-is p i zero = refl
+found-is p i (suc k) = by-case (p i) (found-is p (i + 1) k) where
+  by-case : (t : Bool) → unwrap_or (find p (range_with_len (i + 1) k)) (i + 1 + k) ≡ i + 1 + first_at p (range_with_len (i + 1) k)
+      → unwrap_or (cond t (Some i) (find p (range_with_len (i + 1) k))) (i + suc k) ≡ i + cond t zero (suc (first_at p (range_with_len (i + 1) k)))
+  by-case true h = omega arith
+  by-case false h =
+      let e : i + suc k ≡ i + 1 + k = omega arith in
+      ap (unwrap_or (find p (range_with_len (i + 1) k))) e ∙ h ∙ omega arith
 
-missed-one : (f i k : ℕ) → f < i → first_at (eqb f) (range_with_len i k) ≡ k
-missed-one f i zero a = refl
-missed-one f i (suc k) a =
-    ap (λ t. cond t zero (suc (first_at (eqb f) (range_with_len (i + 1) k)))) (ne_eqb f i (λ e. omega arith)) ∙ ap suc (missed-one f (i + 1) k (omega arith))
+pub found_first : (p : ℕ → Bool) (from n : ℕ) → from ≤ n → unwrap_or (find p (range_with_len from (n - from))) n ≡ first_from p from n
+found_first p from n h =
+    let e : n ≡ from + (n - from) = omega arith in
+    ap (unwrap_or (find p (range_with_len from (n - from)))) e ∙ found-is p from (n - from)
 
--- ---- the loop over the off times
+pub find_nothing : (xs : List ℕ) → find (λ x. false) xs ≡ None
+find_nothing [] = refl
+find_nothing (x ∷ xs) = find_nothing xs
 
-abbrev pub some_to : BlockTime → List Off → ℕ → ℕ → Bool
-some_to t xs j k = list_any (falls_on t k) (take j xs)
+-- ---- the least frame of the off times from `from` on
 
-pub none_yet : (t : BlockTime) (xs : List Off) (from n : ℕ) → from ≤ n → n ≡ first_from (some_to t xs 0) from n
-none_yet t xs from n h =
-    omega (arith, first-never (some_to t xs 0) (range_with_len from (n - from)) (λ k. refl), indexes-length from (n - from))
+-- all of them below n
+abbrev Below : ℕ → List ℕ → Type 0
+Below n fs = All (λ (f : ℕ). f < n) fs
+
+none-beyond : (n : ℕ) (fs : List ℕ) → Below n fs → filter (leb n) fs ≡ []
+none-beyond n [] h = refl
+none-beyond n (f ∷ fs) h = by-case (leb n f) refl (none-beyond n fs (All-tail (λ (g : ℕ). g < n) f fs h)) where
+  by-case : (t : Bool) → leb n f ≡ t → filter (leb n) fs ≡ [] → cond t (f ∷ filter (leb n) fs) (filter (leb n) fs) ≡ []
+  by-case true e rest = absurd (omega (arith, All-head (λ (g : ℕ). g < n) f fs h, leb-true n f e))
+  by-case false e rest = rest
+
+one-less : (i : ℕ) (fs : List ℕ) → list_any (λ f. eqb f i) fs ≡ false → filter (leb i) fs ≡ filter (leb (i + 1)) fs
+one-less i [] h = refl
+one-less i (f ∷ fs) h = by-case (eqb f i) (leb i f) (leb (i + 1) f) refl refl refl h (one-less i fs) where
+  by-case : (a s t : Bool) → eqb f i ≡ a → leb i f ≡ s → leb (i + 1) f ≡ t → a || list_any (λ g. eqb g i) fs ≡ false
+      → (list_any (λ g. eqb g i) fs ≡ false → filter (leb i) fs ≡ filter (leb (i + 1)) fs)
+      → cond s (f ∷ filter (leb i) fs) (filter (leb i) fs) ≡ cond t (f ∷ filter (leb (i + 1)) fs) (filter (leb (i + 1)) fs)
+  by-case true s t ea es et h rest = absurd (true≢false h)
+  by-case false true true ea es et h rest = ap (λ l. f ∷ l) (rest h)
+  by-case false true false ea es et h rest =
+      let u : f ≡ i → ⊥ = eqb-false f i ea in absurd (u (omega (arith, leb-true i f es, leb-false (i + 1) f et)))
+  by-case false false true ea es et h rest = absurd (omega (arith, leb-false i f es, leb-true (i + 1) f et))
+  by-case false false false ea es et h rest = rest h
+
+-- nothing that is left is less
+least-stays : (i : ℕ) (fs : List ℕ) → fold min i (filter (leb i) fs) ≡ i
+least-stays i [] = refl
+least-stays i (f ∷ fs) = by-case (leb i f) refl (least-stays i fs) where
+  by-case : (t : Bool) → leb i f ≡ t → fold min i (filter (leb i) fs) ≡ i → fold min i (cond t (f ∷ filter (leb i) fs) (filter (leb i) fs)) ≡ i
+  by-case true e rest =
+      let m : min i f ≡ i = omega (arith, leb-true i f e) in ap (λ k. fold min k (filter (leb i) fs)) m ∙ rest
+  by-case false e rest = rest
+
+least-found : (i a : ℕ) (fs : List ℕ) → i ≤ a → list_any (λ f. eqb f i) fs ≡ true → fold min a (filter (leb i) fs) ≡ i
+least-found i a [] low h = absurd (true≢false (sym h))
+least-found i a (f ∷ fs) low h = by-case (eqb f i) (leb i f) refl refl h (λ b m. least-found i b fs m) where
+  by-case : (s t : Bool) → eqb f i ≡ s → leb i f ≡ t → s || list_any (λ g. eqb g i) fs ≡ true
+      → ((b : ℕ) → i ≤ b → list_any (λ g. eqb g i) fs ≡ true → fold min b (filter (leb i) fs) ≡ i)
+      → fold min a (cond t (f ∷ filter (leb i) fs) (filter (leb i) fs)) ≡ i
+  by-case true true es et h rest =
+      let m : min a f ≡ i = omega (arith, low, eqb-true f i es) in ap (λ k. fold min k (filter (leb i) fs)) m ∙ least-stays i fs
+  by-case true false es et h rest = absurd (omega (arith, eqb-true f i es, leb-false i f et))
+  by-case false true es et h rest = rest (min a f) (omega (arith, low, leb-true i f et)) h
+  by-case false false es et h rest = rest a low h
+
+least-there : (i : ℕ) (fs : List ℕ) → list_any (λ f. eqb f i) fs ≡ true → reduce min (filter (leb i) fs) ≡ Some i
+least-there i [] h = absurd (true≢false (sym h))
+least-there i (f ∷ fs) h = by-case (eqb f i) (leb i f) refl refl h (least-there i fs) where
+  by-case : (s t : Bool) → eqb f i ≡ s → leb i f ≡ t → s || list_any (λ g. eqb g i) fs ≡ true
+      → (list_any (λ g. eqb g i) fs ≡ true → reduce min (filter (leb i) fs) ≡ Some i)
+      → reduce min (cond t (f ∷ filter (leb i) fs) (filter (leb i) fs)) ≡ Some i
+  by-case true true es et h rest = ap (λ k. Some (fold min k (filter (leb i) fs))) (eqb-true f i es) ∙ ap Some (least-stays i fs)
+  by-case true false es et h rest = absurd (omega (arith, eqb-true f i es, leb-false i f et))
+  by-case false true es et h rest = ap Some (least-found i f fs (leb-true i f et) h)
+  by-case false false es et h rest = rest h
+
+least_is : (i k : ℕ) (fs : List ℕ) → Below (i + k) fs → reduce min (filter (leb i) fs) ≡ find (λ j. list_any (λ f. eqb f j) fs) (range_with_len i k)
+least_is i zero fs h =
+    let e : i + zero ≡ i = omega arith in
+    ap (reduce min) (none-beyond i fs (subst (λ (n : ℕ). Below n fs) e h))
+least_is i (suc k) fs h =
+    let e : i + suc k ≡ i + 1 + k = omega arith in
+    by-case (list_any (λ f. eqb f i) fs) refl (least_is (i + 1) k fs (subst (λ (n : ℕ). Below n fs) e h)) where
+      by-case : (t : Bool) → list_any (λ f. eqb f i) fs ≡ t
+          → reduce min (filter (leb (i + 1)) fs) ≡ find (λ j. list_any (λ f. eqb f j) fs) (range_with_len (i + 1) k)
+          → reduce min (filter (leb i) fs) ≡ cond t (Some i) (find (λ j. list_any (λ f. eqb f j) fs) (range_with_len (i + 1) k))
+      by-case true e rest = least-there i fs e
+      by-case false e rest = ap (reduce min) (one-less i fs e) ∙ rest
 
 pub frame-inside : (t : BlockTime) (at : ℕ) → 0 < t.frames → off_frame t at < t.frames
 unfolding off_frame
 frame-inside t at h = omega arith
 
-module _ (t : BlockTime) (xs : List Off) (j from best f n : ℕ) (d : Off) (low : from ≤ n) (inside : j < length xs)
-    (so_far : best ≡ first_from (some_to t xs j) from n) (told : f ≡ off_frame t (get_or xs j d).at) (high : f < n) where
-  also : first_at (some_to t xs (j + 1)) (range_with_len from (n - from)) ≡ min (first_at (some_to t xs j) (range_with_len from (n - from))) (first_at (eqb f) (range_with_len from (n - from)))
-  also =
-      first-same (some_to t xs (j + 1)) (λ k. some_to t xs j k || eqb f k) (range_with_len from (n - from))
-      (λ k. ap (list_any (falls_on t k)) (ap (λ m. take m xs) (add-one j) ∙ take-suc xs j d inside) ∙ any-one-more (falls_on t k) (take j xs) (get_or xs j d) ∙ ap (λ g. some_to t xs j k || eqb g k) (sym told))
-      ∙ first-or (some_to t xs j) (eqb f) (range_with_len from (n - from))
+-- the frames of the off times
+abbrev frames_of : BlockTime → List Off → List ℕ
+frames_of t xs = map (λ (o : Off). off_frame t o.at) xs
 
-  pub one_more : earlier_of best f from ≡ first_from (some_to t xs (j + 1)) from n
-  one_more =
-      let most : best ≤ n = rw so_far (first-most (some_to t xs j) from n low) in
-      by-case (ltb f from) (ltb f best) refl refl most where
-        by-case : (s u : Bool) → ltb f from ≡ s → ltb f best ≡ u → best ≤ n → cond s best (cond u f best) ≡ first_from (some_to t xs (j + 1)) from n
-        by-case true u e g most = let h : f < from = ltb-true f from e in omega (arith, also, missed-one f from (n - from) h, so_far)
-        by-case false true e g most =
-            let h : from ≤ f = ltb-false f from e in let k : f < best = ltb-true f best g in
-            omega (arith, also, found-one f from (n - from) h (omega arith), so_far)
-        by-case false false e g most =
-            let h : from ≤ f = ltb-false f from e in let k : best ≤ f = ltb-false f best g in
-            omega (arith, also, found-one f from (n - from) h (omega arith), so_far)
+all-inside : (t : BlockTime) (n : ℕ) (xs : List Off) → 0 < t.frames → t.frames ≤ n → Below n (frames_of t xs)
+all-inside t n [] some most = All-nil (λ (g : ℕ). g < n)
+all-inside t n (o ∷ xs) some most =
+    let h : off_frame t o.at < n = omega (arith, frame-inside t o.at some, most) in
+    All-cons (λ (g : ℕ). g < n) (off_frame t o.at) (frames_of t xs) h (all-inside t n xs some most)
+
+same-any : (t : BlockTime) (i : ℕ) (xs : List Off) → list_any (λ f. eqb f i) (frames_of t xs) ≡ list_any (falls_on t i) xs
+same-any t i [] = refl
+same-any t i (o ∷ xs) = ap (λ b. eqb (off_frame t o.at) i || b) (same-any t i xs)
+
+same-find : (p q : ℕ → Bool) (xs : List ℕ) → ((x : ℕ) → p x ≡ q x) → find p xs ≡ find q xs
+same-find p q [] h = refl
+same-find p q (x ∷ xs) h = ap (λ b. cond b (Some x) (find p xs)) (h x) ∙ ap (cond (q x) (Some x)) (same-find p q xs h)
+
+pub least_off : (t : BlockTime) (xs : List Off) (from : ℕ) → 0 < t.frames
+    → reduce min (filter (leb from) (map (λ (o : Off). off_frame t o.at) xs)) ≡ find (λ i. list_any (falls_on t i) xs) (range_with_len from (t.frames - from))
+least_off t xs from some =
+    least_is from (t.frames - from) (frames_of t xs) (all-inside t (from + (t.frames - from)) xs some (omega arith))
+    ∙ same-find (λ j. list_any (λ f. eqb f j) (frames_of t xs)) (λ i. list_any (falls_on t i) xs) (range_with_len from (t.frames - from)) (λ i. same-any t i xs)
 
 -- the next event is the earlier of the next off time and the next turn of the gate
-pub first-event : (t : BlockTime) (q : Offs) (prev gated : Bool) (gate : List Float) (from : ℕ)
-    → next_event t q prev gated gate from ≡ min (next_off t q from) (next_gate prev gated gate from t.frames)
+pub first_event : (t : BlockTime) (q : Offs) (prev : Bool) (gate : Option (List Float)) (from : ℕ) → from ≤ t.frames
+    → next_event t q prev gate from ≡ min (unwrap_or (next_off t q from) t.frames) (unwrap_or (next_gate prev gate from t.frames) t.frames)
 unfolding next_event next_off next_gate has_event
-first-event t q prev gated gate from =
-    let h : first_at (λ i. list_any (falls_on t i) (off_list q) || turns prev (gate_at gated gate i)) (range_with_len from (t.frames - from))
-    ≡ min (first_at (λ i. list_any (falls_on t i) (off_list q)) (range_with_len from (t.frames - from))) (first_at (λ i. turns prev (gate_at gated gate i)) (range_with_len from (t.frames - from)))
-    = first-or (λ i. list_any (falls_on t i) (off_list q)) (λ i. turns prev (gate_at gated gate i)) (range_with_len from (t.frames - from)) in
-    omega arith
+first_event t q prev gate from low =
+    let h : first_at (λ i. list_any (falls_on t i) (off_list q) || turns prev (gate_at gate i)) (range_with_len from (t.frames - from))
+    ≡ min (first_at (λ i. list_any (falls_on t i) (off_list q)) (range_with_len from (t.frames - from))) (first_at (λ i. turns prev (gate_at gate i)) (range_with_len from (t.frames - from)))
+    = first-or (λ i. list_any (falls_on t i) (off_list q)) (λ i. turns prev (gate_at gate i)) (range_with_len from (t.frames - from)) in
+    omega (arith, h, found_first (λ i. list_any (falls_on t i) (off_list q)) from t.frames low, found_first (λ i. turns prev (gate_at gate i)) from t.frames low)
 
 pub same_turn : (prev : Bool) → prev ≡ turns prev false
 same_turn true = refl

@@ -1,39 +1,39 @@
 -- From event to event, and the outputs' loops. Assumes nothing.
-use Rattle.std.specs.Prelude.{cond}
+use Rattle.std.proofs.lemmas.Option.{IfSome_then}
+use Rattle.std.specs.Prelude.{cond, Option}
 use Prim.Native.Nat.{ℕ, zero, suc, ◌+◌, ◌-◌, ◌<◌, ◌≤◌, ◌^◌}
 use mathlib.Core.Path.{◌≡◌, refl, sym, ap, ◌∙◌}
 use mathlib.Core.Bool.{Bool, true, false}
-use mathlib.Core.List.{List, [], ◌∷◌, ◌++◌, map, foldl, append-nil}
+use mathlib.Core.List.{List, [], ◌∷◌, ◌++◌, foldl, append-nil}
 use native.Mathlib.Omega.{arith}
 use native.Mathlib.Nat.{lt_of_lt_of_le}
 use native.Mathlib.Numerals.{add-one}
-use lib.ListN.{length, take, drop, get_or, set, replicate, drop_of_length-le}
+use lib.ListN.{length, take, drop, get_or, set, drop_of_length-le}
 use lib.Seq.{take_all}
 use lib.Ieee.{Float}
-use Rattle.exact.specs.Single.{◌⊗◌, f0}
+use Rattle.exact.specs.Single.{◌⊗◌}
 use Rattle.std.specs.List.{range_with_len}
-use Rattle.session.proofs.Walks.{on_first}
 use Rattle.note.specs.declared.Strike.{Strike}
 use Rattle.block.specs.declared.Playing.{Playing}
 use Rattle.block.specs.Inputs.{Cues, Reaches, Struck, kit_of, sounds_of, gate_at, strike_at}
 use Rattle.block.specs.Render.{Scene, rendered_to}
 use Rattle.block.specs.Block.{events_at, turned_scene, event_on, event_turn, frame_turn, frames_turned, sounded_from, times_each}
 use Rattle.block.specs.Next.{next_event}
-use Rattle.block.specs.Ready.{PlayingOk, CuesOk}
+use Rattle.block.specs.Ready.{PlayingOk, CuesOk, Covers}
 use Rattle.block.proofs.Firsts.{skip-to, first-most, first-true}
 use Rattle.block.proofs.Scenes.{no_frames}
 
 -- ---- one event
 
 pub turn-scene : (c : Cues) (i : ℕ) (sc y : Scene) → y ≡ rendered_to (sounds_of c) i sc → (x : Strike) → x ≡ strike_at c i → (g : Bool)
-    → g ≡ gate_at c.connected.gate c.gate i → (r : Playing) → r ≡ events_at (kit_of c) c.time i x g y.playing
+    → g ≡ gate_at c.inputs.gate i → (r : Playing) → r ≡ events_at (kit_of c) c.time i x g y.playing
     → turned_scene r y ≡ event_turn c i sc
 unfolding event_turn
 turn-scene c i sc y e x ex g eg r er =
     ap (λ (q : Playing). turned_scene q y) er
     ∙ ap (λ (s : Strike). turned_scene (events_at (kit_of c) c.time i s g y.playing) y) ex
     ∙ ap (λ (b : Bool). turned_scene (events_at (kit_of c) c.time i (strike_at c i) b y.playing) y) eg
-    ∙ ap (λ (z : Scene). turned_scene (events_at (kit_of c) c.time i (strike_at c i) (gate_at c.connected.gate c.gate i) z.playing) z) e
+    ∙ ap (λ (z : Scene). turned_scene (events_at (kit_of c) c.time i (strike_at c i) (gate_at c.inputs.gate i) z.playing) z) e
 
 pub still : (c : Cues) (sc : Scene) (k : ℕ) → event_on c sc k ≡ false → frame_turn c sc k ≡ sc
 unfolding frame_turn
@@ -47,7 +47,7 @@ acts c sc k e = ap (λ t. cond t (event_turn c k sc) sc) e
 
 -- the first event from `from` on
 abbrev pub upcoming : Cues → Scene → ℕ → ℕ
-upcoming c sc from = next_event c.time sc.playing.offs sc.playing.voice.gate_prev c.connected.gate c.gate from
+upcoming c sc from = next_event c.time sc.playing.offs sc.playing.voice.gate_prev c.inputs.gate from
 
 -- the frames from i on
 abbrev turned_from : Cues → Scene → ℕ → Scene
@@ -149,16 +149,6 @@ module _ (c : Cues) (first sc : Scene) (ev : ℕ) (so_far : Reached c first sc e
 
 -- ---- the outputs
 
--- every frame 0, up to i
-cleared : (xs : List Float) → map (λ x. f0) xs ≡ replicate (length xs) f0
-cleared [] = refl
-cleared (x ∷ xs) = ap (λ l. f0 ∷ l) (cleared xs)
-
-pub clear-done : (xs ys : List Float) (i : ℕ) → ys ≡ on_first (λ x. f0) i xs → length xs ≤ i → ys ≡ replicate (length xs) f0
-clear-done xs ys i e h =
-    e ∙ ap (λ l. map (λ x. f0) l ++ drop i xs) (take_all i xs h) ∙ ap (λ l. map (λ x. f0) xs ++ l) (drop_of_length-le xs {i = i} h)
-    ∙ append-nil (map (λ x. f0) xs) ∙ cleared xs
-
 -- each frame by the input's, up to i
 abbrev pub times_to : ℕ → List Float → List Float → List Float
 times_to i xs ys = times_each (take i xs) ys ++ drop i xs
@@ -181,17 +171,20 @@ times-done xs ys zs i e h =
 
 -- ---- what an event reads is there
 
+pub reaches : {i n : ℕ} (input : Option (List Float)) → Covers input n → i < n → Reaches input i
+reaches input k h = IfSome_then input k (λ xs m. lt_of_lt_of_le h m)
+
 module _ (c : Cues) (ok : CuesOk c) (i : ℕ) (h : i < c.time.frames) where
-  pub strike-there : Struck c.connected c.freq c.vel c.seed c.quality i
+  pub strike-there : Struck c.inputs i
   strike-there = record {
-    freq = λ e. lt_of_lt_of_le h (ok.freq e);
-    vel = λ e. lt_of_lt_of_le h (ok.vel e);
-    seed = λ e. lt_of_lt_of_le h (ok.seed e);
-    quality = λ e. lt_of_lt_of_le h (ok.quality e);
+    freq = reaches c.inputs.freq ok.freq h;
+    vel = reaches c.inputs.vel ok.vel h;
+    seed = reaches c.inputs.seed ok.seed h;
+    quality = reaches c.inputs.quality ok.quality h;
   }
 
-  pub gate-there : Reaches c.connected.gate c.gate i
-  gate-there e = lt_of_lt_of_le h (ok.gate e)
+  pub gate-there : Reaches c.inputs.gate i
+  gate-there = reaches c.inputs.gate ok.gate h
 
   pub time-fits : c.time.offset + i < 2 ^ 64
   time-fits = omega (arith, ok.offset, ok.most)

@@ -15,7 +15,7 @@ use Rattle.session.specs.State.{view, relist, slot_list}
 use Rattle.session.specs.declared.Session.{Session}
 use Rattle.session.specs.declared.Slots.{Slots}
 use Rattle.players.specs.Mix.{Sounds}
-use Rattle.players.specs.declared.Mixed.{Mixed}
+use Rattle.players.specs.Mix.{Mixed}
 use Rattle.note.specs.declared.Strike.{Strike}
 use Rattle.events.specs.Voice.{Kit, with_players}
 use Rattle.gates.specs.Off.{reaped_both, applied_off}
@@ -24,9 +24,8 @@ use Rattle.events.specs.declared.Both.{Both}
 use Rattle.events.specs.declared.SampleVoice.{SampleVoice}
 use Rattle.gates.proofs.Edges.{Stays, reap-stays, off-stays, on-stays, off-held, off-not-held}
 use Rattle.block.specs.declared.BlockTime.{BlockTime}
-use Rattle.block.specs.declared.Connected.{Connected}
 use Rattle.block.specs.declared.Playing.{Playing}
-use Rattle.block.specs.Inputs.{Lent, Cues, cues_of, kit_of, sounds_of, gate_at, strike_at}
+use Rattle.block.specs.Inputs.{Signals, Lent, Cues, cues_of, kit_of, sounds_of, gate_at, strike_at}
 use Rattle.block.specs.Render.{Scene, both_of, with_both, with_ended, after_part, scene_after, mixture_of, rendered_to}
 use Rattle.block.specs.Block.{retuned_for, retuned_voice, started_block, block_start, off_list, falls_on, off_turn, off_turns, turns, with_gate, edge_turned, gate_turn, events_at, event_on, event_turn, frame_turn, frames_turned, sounded_from, played_block}
 
@@ -127,7 +126,7 @@ module _ (c : Cues) where
   unfolding event_turn
   event-lasts i sc =
       lasts-then (rendered-lasts (sounds_of c) i sc)
-      (events-last (kit_of c) (strike_at c i) c.time i (gate_at c.connected.gate c.gate i) (rendered_to (sounds_of c) i sc).playing)
+      (events-last (kit_of c) (strike_at c i) c.time i (gate_at c.inputs.gate i) (rendered_to (sounds_of c) i sc).playing)
 
   frame-lasts : (sc : Scene) (i : ℕ) → Lasts (both_of sc.playing) (both_of (frame_turn c sc i).playing)
   unfolding frame_turn
@@ -148,14 +147,14 @@ module _ (c : Cues) where
 
 -- ---- a block
 
-pub start-lasts : (c : Connected) (fs bs : List Float) (s : Session) (v : SampleVoice)
-    → Lasts (record { session = s; voice = v }) (both_of (started_block c fs bs s v))
+pub start-lasts : (ins : Signals) (s : Session) (v : SampleVoice)
+    → Lasts (record { session = s; voice = v }) (both_of (started_block ins s v))
 unfolding started_block collected_offs retuned_voice
-start-lasts c fs bs s v = by-case v.note where
-  by-case : (m : Option NoteState) → Lasts (record { session = s; voice = v }) (record { session = (collected_offs v.voice s).session; voice = retuned_for c fs bs m v })
+start-lasts ins s v = by-case v.note where
+  by-case : (m : Option NoteState) → Lasts (record { session = s; voice = v }) (record { session = (collected_offs v.voice s).session; voice = retuned_for ins m v })
   by-case None = record { voices = refl; id = refl; rate = refl; program = refl }
   by-case (Some n) = record { voices = refl; id = refl; rate = refl; program = refl }
 
 pub block-lasts : (l : Lent) (s : Session) (v : SampleVoice) → Lasts (record { session = s; voice = v }) (played_block l s v).both
 unfolding played_block block_start
-block-lasts l s v = lasts-then (start-lasts l.connected l.freq l.bend s v) (sounded-lasts (cues_of l) (block_start l s v))
+block-lasts l s v = lasts-then (start-lasts l.inputs s v) (sounded-lasts (cues_of l) (block_start l s v))

@@ -1,6 +1,6 @@
 -- A part of a block: the frames up to an event, then its off marks and an edge of the gate, each only where it happens. Assumes nothing.
-use Rattle.std.specs.List.{list_any}
-use Rattle.std.specs.Prelude.{cond}
+use Rattle.std.specs.List.{list_any, position}
+use Rattle.std.specs.Prelude.{cond, is_some, None, Option, Some}
 use Prim.Native.Nat.{ℕ, zero, suc, ◌+◌, ◌-◌, ◌<◌, ◌≤◌}
 use mathlib.Core.Path.{◌≡◌, refl, sym, ap, ◌∙◌}
 use mathlib.Core.Bool.{Bool, true, false, not, ◌||◌, true≢false}
@@ -10,13 +10,11 @@ use lib.ListN.{length, take, drop, length-append, length-take, length-drop}
 use lib.Dec.{eqb}
 use lib.Ieee.{Float}
 use borrow.Author.Tests.{eqb-true}
-use Rattle.session.specs.Offs.{first_at}
 use Rattle.session.specs.declared.Offs.{Offs}
 use Rattle.session.specs.declared.Session.{Session}
 use Rattle.note.specs.declared.Strike.{Strike}
 use Rattle.players.specs.Mix.{Mixture, tuned_all, played_all}
-use Rattle.players.specs.Seats.{sounding, is_over, retuned_all, PlayersOk}
-use Rattle.players.specs.declared.mix.Tune.{Tune}
+use Rattle.players.specs.Seats.{sounding, is_over, PlayersOk}
 use Rattle.events.specs.Voice.{Kit, with_players}
 use Rattle.events.specs.declared.Both.{Both}
 use Rattle.events.specs.declared.SampleVoice.{SampleVoice}
@@ -70,14 +68,12 @@ module _ (c : Cues) (sc : Scene) (ev : ℕ) (ok : PlayingOk c.words sc.playing) 
   pub heard-none : sc.playing.from ≤ ev → ev ≤ sc.playing.from → Heard c sc ev sc
   heard-none a b = record { is = no_frames (sounds_of c) ev sc b; at = omega arith; ok = ok; left = l; right = r }
 
-  module _ (x : Tune) (off : x.on ≡ false) (some : sc.playing.from < ev) (m : Mixture)
-      (told : m ≡ played_all (sounds_of c) (tuned_all x sc.playing.voice.players) (part sc.playing.from ev sc.left) (part sc.playing.from ev sc.right))
+  module _ (some : sc.playing.from < ev) (m : Mixture)
+      (told : m ≡ played_all (sounds_of c) (tuned_all None sc.playing.voice.players) (part sc.playing.from ev sc.left) (part sc.playing.from ev sc.right))
       (same_left : length m.left ≡ length (part sc.playing.from ev sc.left)) (same-right : length m.right ≡ length (part sc.playing.from ev sc.right)) where
     as-tuned : m ≡ mixture_of (sounds_of c) sc.playing.from ev sc
     unfolding tuned_all
-    as-tuned =
-        told
-        ∙ ap (λ (t : Bool). played_all (sounds_of c) (cond t (retuned_all x.note_f x.bend sc.playing.voice.players) sc.playing.voice.players) (part sc.playing.from ev sc.left) (part sc.playing.from ev sc.right)) off
+    as-tuned = told
 
     -- the voice with what its players became
     abbrev played : SampleVoice
@@ -136,6 +132,10 @@ module _ (k : Kit) (t : BlockTime) (i : ℕ) where
   pub offs-acted : (p r : Playing) → r ≡ off_turns k t i p.offs.count p → under r.session r.voice r.offs p.from ≡ off_turns k t i p.offs.count p
   offs-acted p r e = ap (under r.session r.voice r.offs) (sym (ap (λ (y : Playing). y.from) e ∙ turns-from p.offs.count p)) ∙ e
 
+not-some : (o : Option ℕ) → is_some o ≡ false → o ≡ None
+not-some None h = refl
+not-some (Some j) h = absurd (true≢false h)
+
 -- the off times on frame i have acted
 pub record Marked (c : Cues) (i : ℕ) (p q : Playing) : Type 0 where
   pub is : q ≡ off_turns (kit_of c) c.time i p.offs.count p
@@ -149,24 +149,24 @@ module _ (c : Cues) (i : ℕ) (p : Playing) where
       → Marked c i p (under r.session r.voice r.offs p.from)
   marked-some r e h = record { is = offs-acted (kit_of c) c.time i p r e; ok = record { voice = h.voice; offs = h.offs } }
 
-  pub marked-none : PlayingOk c.words p → (j : ℕ) → j ≡ first_at (falls_on c.time i) (off_list p.offs) → p.offs.count ≤ j → Marked c i p p
-  marked-none ok j first h = record { is = sym (turns-over (kit_of c) c.time i j p.offs.count p ok.offs refl first h); ok = ok }
+  pub marked-none : PlayingOk c.words p → (o : Option ℕ) → o ≡ position (falls_on c.time i) (off_list p.offs) → is_some o ≡ false → Marked c i p p
+  marked-none ok o told h = record { is = sym (turns-over (kit_of c) c.time i p ok.offs (sym told ∙ not-some o h)); ok = ok }
 
 -- and then an edge of the gate
 pub record Acted (c : Cues) (i : ℕ) (p q : Playing) : Type 0 where
-  pub is : q ≡ events_at (kit_of c) c.time i (strike_at c i) (gate_at c.connected.gate c.gate i) p
+  pub is : q ≡ events_at (kit_of c) c.time i (strike_at c i) (gate_at c.inputs.gate i) p
   pub ok : PlayingOk c.words q
 
 pub acted-as : {c : Cues} {i : ℕ} {p q r : Playing} → q ≡ r → Acted c i p r → Acted c i p q
 acted-as e h = rw e h
 
-module _ (c : Cues) (i : ℕ) (p q : Playing) (marked : Marked c i p q) (g b : Bool) (up : g ≡ gate_at c.connected.gate c.gate i)
+module _ (c : Cues) (i : ℕ) (p q : Playing) (marked : Marked c i p q) (g b : Bool) (up : g ≡ gate_at c.inputs.gate i)
     (told : b ≡ turns q.voice.gate_prev g) where
-  gate-is : (r : Playing) → r ≡ gate_turn (kit_of c) (strike_at c i) g q → r ≡ events_at (kit_of c) c.time i (strike_at c i) (gate_at c.connected.gate c.gate i) p
+  gate-is : (r : Playing) → r ≡ gate_turn (kit_of c) (strike_at c i) g q → r ≡ events_at (kit_of c) c.time i (strike_at c i) (gate_at c.inputs.gate i) p
   unfolding events_at
   gate-is r e =
       e ∙ ap (λ (h : Bool). gate_turn (kit_of c) (strike_at c i) h q) up
-      ∙ ap (gate_turn (kit_of c) (strike_at c i) (gate_at c.connected.gate c.gate i)) marked.is
+      ∙ ap (gate_turn (kit_of c) (strike_at c i) (gate_at c.inputs.gate i)) marked.is
 
   pub acted-still : b ≡ false → Acted c i p q
   acted-still e = record { is = gate-is q (gate-still (kit_of c) (strike_at c i) g q b told e); ok = marked.ok }
@@ -179,4 +179,4 @@ module _ (c : Cues) (i : ℕ) (p q : Playing) (marked : Marked c i p q) (g b : B
   }
 
 pub acted-scene : (c : Cues) (sc : Scene) (i : ℕ) (y : Scene) → Heard c sc i y → (p : Playing) → Acted c i y.playing p → turned_scene p y ≡ event_turn c i sc
-acted-scene c sc i y heard p acted = turn-scene c i sc y heard.is (strike_at c i) refl (gate_at c.connected.gate c.gate i) refl p acted.is
+acted-scene c sc i y heard p acted = turn-scene c i sc y heard.is (strike_at c i) refl (gate_at c.inputs.gate i) refl p acted.is

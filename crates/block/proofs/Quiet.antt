@@ -1,7 +1,7 @@
 -- A block in which nothing happens: no player, no record of the voice, no turn of the gate. Session and voice stay as they were, and
 -- both outputs are silence. Assumes nothing.
 use Rattle.std.specs.List.{list_any}
-use Rattle.std.specs.Prelude.{cond, ◌||◌, is_some}
+use Rattle.std.specs.Prelude.{cond, ◌||◌, is_some, None, Option, Some}
 use Prim.Native.Nat.{ℕ, ◌-◌, ◌≤◌}
 use mathlib.Core.Path.{◌≡◌, refl, sym, ap, ◌∙◌}
 use mathlib.Core.Bool.{Bool, true, false, ◌&&◌, true≢false}
@@ -16,7 +16,7 @@ use Rattle.session.specs.declared.PlayerRecord.{PlayerRecord}
 use Rattle.session.specs.declared.Session.{Session}
 use Rattle.players.specs.Mix.{Sounds, tuned_all, played_band, played_all}
 use Rattle.players.specs.Seats.{retuned_all}
-use Rattle.players.specs.declared.mix.Tune.{Tune}
+use Rattle.players.specs.declared.Tune.{Tune}
 use Rattle.gates.specs.Off.{reaped_both}
 use Rattle.events.specs.Voice.{with_players}
 use Rattle.events.specs.declared.SampleVoice.{SampleVoice}
@@ -48,13 +48,10 @@ emptied v = with_players (record { players = v.players.players; count = 0 }) v
 is-emptied : (v : SampleVoice) → v.players.count ≡ 0 → emptied v ≡ v
 is-emptied v e = ap (λ n. with_players (record { players = v.players.players; count = n }) v) (sym e)
 
-none-tuned : (x : Tune) (v : SampleVoice) → with_players (tuned_all x (emptied v).players) (emptied v) ≡ emptied v
+none-tuned : (x : Option Tune) (v : SampleVoice) → with_players (tuned_all x (emptied v).players) (emptied v) ≡ emptied v
 unfolding tuned_all retuned_all
-none-tuned x v = by-case x.on
-  where
-    by-case : (t : Bool) → with_players (cond t (retuned_all x.note_f x.bend (emptied v).players) (emptied v).players) (emptied v) ≡ emptied v
-    by-case true = refl
-    by-case false = refl
+none-tuned None v = refl
+none-tuned (Some t) v = refl
 
 -- ---- the frames
 
@@ -73,8 +70,8 @@ module _ (l : Lent) (s : Session) (v : SampleVoice) where
       by-case : (t : Bool) → played_of l (cond t (scene_after 0 n quiet (mixture_of x 0 n quiet)) quiet) ≡ played_of l quiet
       by-case true =
           let zs : List Float = quiet.left in
-          ap (λ z. record { both = record { session = s; voice = emptied v }; left = amplified l.connected.amp l.amp z; right = amplified l.connected.amp l.amp (take 0 zs ++ (take (n - 0) (drop 0 zs) ++ drop (n - 0) (drop 0 zs))) }) (part-back n zs)
-          ∙ ap (λ z. record { both = record { session = s; voice = emptied v }; left = amplified l.connected.amp l.amp zs; right = amplified l.connected.amp l.amp z }) (part-back n zs)
+          ap (λ z. record { both = record { session = s; voice = emptied v }; left = amplified l.inputs.amp z; right = amplified l.inputs.amp (take 0 zs ++ (take (n - 0) (drop 0 zs) ++ drop (n - 0) (drop 0 zs))) }) (part-back n zs)
+          ∙ ap (λ z. record { both = record { session = s; voice = emptied v }; left = amplified l.inputs.amp zs; right = amplified l.inputs.amp z }) (part-back n zs)
       by-case false = refl
 
 -- ---- the block
@@ -83,20 +80,20 @@ module _ (l : Lent) (s : Session) (v : SampleVoice) where
 abbrev pub quiet_block : Lent → Session → SampleVoice → Played
 quiet_block l s v = record {
   both = record { session = s; voice = v };
-  left = amplified l.connected.amp l.amp (replicate l.time.frames f0);
-  right = amplified l.connected.amp l.amp (replicate l.time.frames f0);
+  left = amplified l.inputs.amp (replicate l.time.frames f0);
+  right = amplified l.inputs.amp (replicate l.time.frames f0);
 }
 
 quiet-emptied : (l : Lent) (s : Session) (v : SampleVoice) → length s.players ≡ 512 → s.count ≤ 512 → list_any (of_voice v.voice) (view s) ≡ false
-    → next_gate v.gate_prev l.connected.gate l.gate 0 l.time.frames ≡ l.time.frames → played_block l s (emptied v) ≡ quiet_block l s (emptied v)
+    → next_gate v.gate_prev l.inputs.gate 0 l.time.frames ≡ None → played_block l s (emptied v) ≡ quiet_block l s (emptied v)
 quiet-emptied l s v size few own stays =
     eventless l s (emptied v) size few (none-own v.voice (view s) own) stays
-    ∙ ap (λ (w : SampleVoice). played_of l (rendered_to (sounds_of (cues_of l)) l.time.frames (standing l s w))) (none-tuned (tune_of v.note l.connected l.freq l.bend) v)
+    ∙ ap (λ (w : SampleVoice). played_of l (rendered_to (sounds_of (cues_of l)) l.time.frames (standing l s w))) (none-tuned (tune_of v.note l.inputs) v)
     ∙ none-rendered l s v (sounds_of (cues_of l)) l.time.frames
 
 pub quiet_is : (l : Lent) (s : Session) (v : SampleVoice) → length s.players ≡ 512 → s.count ≤ 512 → v.players.count ≡ 0
     → list_any (of_voice v.voice) (view s) ≡ false
-    → next_gate v.gate_prev l.connected.gate l.gate 0 l.time.frames ≡ l.time.frames → quiet_block l s v ≡ played_block l s v
+    → next_gate v.gate_prev l.inputs.gate 0 l.time.frames ≡ None → quiet_block l s v ≡ played_block l s v
 quiet_is l s v size few silent own still =
     let e = is-emptied v silent in
     sym (ap (λ (w : SampleVoice). played_block l s w) (sym e) ∙ quiet-emptied l s v size few own still ∙ ap (quiet_block l s) e)

@@ -1,9 +1,11 @@
 -- Turns of a block under way. Assumes nothing.
-use Rattle.std.specs.List.{list_any}
-use Rattle.std.specs.Prelude.{cond, ◌||◌}
+use Rattle.std.specs.List.{list_any, position, position_or_len}
+use Rattle.std.specs.Prelude.{cond, ◌||◌, None, Option, Some}
+use Rattle.std.proofs.lemmas.Bool.{ltb-true}
+use Rattle.std.proofs.lemmas.Option.{cond_some, none-some}
 use Prim.Native.Nat.{ℕ, zero, suc, ◌+◌, ◌-◌, ◌<◌, ◌≤◌}
 use mathlib.Core.Path.{◌≡◌, refl, sym, ap, ◌∙◌}
-use mathlib.Core.Bool.{Bool, true, false}
+use mathlib.Core.Bool.{Bool, true, false, not}
 use mathlib.Core.List.{List, [], ◌∷◌}
 use native.Mathlib.Omega.{arith}
 use lib.ListN.{length, take, get_or, length-set}
@@ -38,12 +40,36 @@ module _ {A : Type 0} (p : A → Bool) where
     by-case true k rest = refl
     by-case false k rest = rest (omega (arith, k))
 
-  none-there : (xs : List A) → length xs ≤ first_at p xs → list_any p xs ≡ false
-  none-there [] h = refl
-  none-there (x ∷ xs) h = by-case (p x) h (none-there xs) where
-    by-case : (t : Bool) → suc (length xs) ≤ cond t zero (suc (first_at p xs)) → (length xs ≤ first_at p xs → list_any p xs ≡ false) → t || list_any p xs ≡ false
-    by-case true k rest = absurd (omega (arith, k))
-    by-case false k rest = rest (omega (arith, k))
+  first-prefix : (xs : List A) → position_or_len p xs ≡ first_at p xs
+  first-prefix [] = refl
+  first-prefix (x ∷ xs) = by-case (p x) (first-prefix xs) where
+    by-case : (t : Bool) → position_or_len p xs ≡ first_at p xs → cond (not t) (1 + position_or_len p xs) 0 ≡ cond t zero (suc (first_at p xs))
+    by-case true h = refl
+    by-case false h = omega (arith, h)
+
+  at-first : (xs : List A) (j : ℕ) → position p xs ≡ Some j → (j ≡ first_at p xs) × (j < length xs)
+  at-first xs j e =
+      let h = cond_some (ltb (position_or_len p xs) (length xs)) (position_or_len p xs) j e in
+      let k : j ≡ first_at p xs = sym h.1 ∙ first-prefix xs in
+      (k, omega (arith, ltb-true (position_or_len p xs) (length xs) h.0, h.1))
+
+  no-first : (xs : List A) → position p xs ≡ None → list_any p xs ≡ false
+  no-first [] e = refl
+  no-first (x ∷ xs) e = by-case (p x) e (no-first xs) where
+    by-case : (t : Bool)
+        → cond (ltb (cond (not t) (1 + position_or_len p xs) 0) (suc (length xs))) (Some (cond (not t) (1 + position_or_len p xs) 0)) None ≡ None
+        → (position p xs ≡ None → list_any p xs ≡ false) → t || list_any p xs ≡ false
+    by-case true g rest =
+        let l : ltb 0 (suc (length xs)) ≡ true = lt-ltb 0 (suc (length xs)) (omega arith) in
+        absurd (none-some 0 (sym g ∙ ap (λ b. cond b (Some 0) None) l))
+    by-case false g rest = by-bound (ltb (position_or_len p xs) (length xs)) refl g rest where
+      by-bound : (u : Bool) → ltb (position_or_len p xs) (length xs) ≡ u
+          → cond (ltb (1 + position_or_len p xs) (suc (length xs))) (Some (1 + position_or_len p xs)) None ≡ None
+          → (position p xs ≡ None → list_any p xs ≡ false) → list_any p xs ≡ false
+      by-bound true d g rest =
+          let l : ltb (1 + position_or_len p xs) (suc (length xs)) ≡ true = lt-ltb (1 + position_or_len p xs) (suc (length xs)) (omega (arith, ltb-true (position_or_len p xs) (length xs) d)) in
+          absurd (none-some (1 + position_or_len p xs) (sym g ∙ ap (λ b. cond b (Some (1 + position_or_len p xs)) None) l))
+      by-bound false d g rest = rest (ap (λ b. cond b (Some (position_or_len p xs)) None) d)
 
 list_length : (q : Offs) → OffsOk q → length (off_list q) ≡ q.count
 list_length q ok = ap (λ n. length (take n q.offs)) (used-small 32 q.count ok.few) ∙ length-take-le q.count q.offs (omega (arith, ok.few, ok.size))
@@ -81,26 +107,32 @@ pub turn-count : (k : Kit) (t : BlockTime) (i : ℕ) (p : Playing) → (off_turn
 unfolding off_turn swap_removed
 turn-count k t i p = refl
 
--- the loop over the turns: n off times are left, and the first on the frame stands at j
-module _ (k : Kit) (t : BlockTime) (i j n : ℕ) (p : Playing) (ok : OffsOk p.offs) (count : n ≡ p.offs.count)
-    (first : j ≡ first_at (falls_on t i) (off_list p.offs)) where
-  pub turns_more : j < n → off_turns k t i n p ≡ off_turns k t i (n - 1) (off_turn k t i p)
-  unfolding off_turns
-  turns_more h =
-      let l : length (off_list p.offs) ≡ p.offs.count = list_length p.offs ok in
-      let e : list_any (falls_on t i) (off_list p.offs) ≡ true = some-there (falls_on t i) (off_list p.offs) (omega arith) in
-      let m : n ≡ suc (n - 1) = omega arith in
-      ap (λ x. off_turns k t i x p) m ∙ ap (λ b. cond b (off_turns k t i (n - 1) (off_turn k t i p)) p) e
+-- where the first off time on the frame stands, if one does
+module _ (t : BlockTime) (i : ℕ) (q : Offs) (ok : OffsOk q) where
+  pub first-there : (j : ℕ) → position (falls_on t i) (off_list q) ≡ Some j
+      → (j ≡ first_at (falls_on t i) (off_list q)) × (j < q.count) × (list_any (falls_on t i) (off_list q) ≡ true)
+  first-there j e =
+      let h = at-first (falls_on t i) (off_list q) j e in
+      (h.0, rw (list_length q ok) at h.1, some-there (falls_on t i) (off_list q) (rw h.0 at h.1))
 
-  pub turns-over : n ≤ j → off_turns k t i n p ≡ p
+-- the loop over the turns
+module _ (k : Kit) (t : BlockTime) (i : ℕ) (p : Playing) (ok : OffsOk p.offs) where
+  pub turns_more : (j : ℕ) → position (falls_on t i) (off_list p.offs) ≡ Some j
+      → (q : Playing) → q ≡ off_turn k t i p → off_turns k t i p.offs.count p ≡ off_turns k t i q.offs.count q
   unfolding off_turns
-  turns-over h =
-      let l : length (off_list p.offs) ≡ p.offs.count = list_length p.offs ok in
-      let e : list_any (falls_on t i) (off_list p.offs) ≡ false = none-there (falls_on t i) (off_list p.offs) (omega arith) in
-      by-case n e where
-        by-case : (m : ℕ) → list_any (falls_on t i) (off_list p.offs) ≡ false → off_turns k t i m p ≡ p
-        by-case zero e = refl
-        by-case (suc m) e = ap (λ b. cond b (off_turns k t i m (off_turn k t i p)) p) e
+  turns_more j e q d =
+      let h = first-there t i p.offs ok j e in
+      let m : p.offs.count ≡ suc (p.offs.count - 1) = omega (arith, h.1) in
+      ap (λ x. off_turns k t i x p) m ∙ ap (λ b. cond b (off_turns k t i (p.offs.count - 1) (off_turn k t i p)) p) h.2
+      ∙ ap (λ n. off_turns k t i n (off_turn k t i p)) (sym (turn-count k t i p))
+      ∙ ap (λ (x : Playing). off_turns k t i x.offs.count x) (sym d)
+
+  pub turns-over : position (falls_on t i) (off_list p.offs) ≡ None → off_turns k t i p.offs.count p ≡ p
+  unfolding off_turns
+  turns-over e = by-case p.offs.count (no-first (falls_on t i) (off_list p.offs) e) where
+    by-case : (m : ℕ) → list_any (falls_on t i) (off_list p.offs) ≡ false → off_turns k t i m p ≡ p
+    by-case zero e = refl
+    by-case (suc m) e = ap (λ b. cond b (off_turns k t i m (off_turn k t i p)) p) e
 
 -- ---- an edge of the gate
 

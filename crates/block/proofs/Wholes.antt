@@ -4,7 +4,6 @@ use Prim.Native.Nat.{ℕ, ◌≤◌}
 use mathlib.Core.Path.{◌≡◌, sym, ap, ◌∙◌}
 use mathlib.Core.Bool.{Bool}
 use mathlib.Core.List.{List}
-use native.Mathlib.Nat.{lt_of_lt_of_le}
 use native.Mathlib.Omega.{arith}
 use lib.ListN.{length, take, drop, replicate, length-append, length-drop, length-replicate, length-take}
 use lib.Seq.{length-take-le}
@@ -21,11 +20,11 @@ use Rattle.players.specs.Seats.{PlayersOk, retuned_all}
 use Rattle.players.specs.declared.Players.{Players}
 use Rattle.events.specs.Voice.{with_players}
 use Rattle.events.specs.declared.SampleVoice.{SampleVoice}
-use Rattle.block.specs.declared.Connected.{Connected}
 use Rattle.block.specs.declared.Playing.{Playing}
-use Rattle.block.specs.Inputs.{Lent, cues_of, Reaches, input_at, bend_of}
+use Rattle.block.specs.Inputs.{Signals, Lent, cues_of, Reaches, input_at, bend_of}
 use Rattle.block.specs.Render.{Scene, both_of}
 use Rattle.block.specs.Block.{retuned_for, retuned_voice, started_block, block_start, sounded_from, amplified, Played, played_of, played_block}
+use Rattle.block.proofs.Framing.{reaches}
 use Rattle.block.proofs.Lasting.{start-lasts}
 use Rattle.block.specs.Ready.{VoiceOk, OffsOk, PlayingOk, Covers, CuesOk, Ready}
 
@@ -34,25 +33,10 @@ use Rattle.block.specs.Ready.{VoiceOk, OffsOk, PlayingOk, Covers, CuesOk, Ready}
 pub players-of : (w v : SampleVoice) (ps : Players) → w ≡ with_players ps v → PlayersOk ps → PlayersOk w.players
 players-of w v ps e h = rw e h
 
-module _ (c : Connected) (fs bs : List Float) (v : SampleVoice) where
-  pub no_note : v.note ≡ None → v ≡ retuned_voice c fs bs v
-  unfolding retuned_voice
-  no_note e = sym (ap (λ (m : Option NoteState). retuned_for c fs bs m v) e)
-
-  pub some-note : (n : NoteState) → v.note ≡ Some n → (f : Float) → f ≡ input_at c.freq fs 0 f0 → (b : Float) → b ≡ input_at c.bend bs 0 f0
-      → (d : Float) → d ≡ bend_of b → (x : Float) → x ≡ note_of f n.note_f → (ps : Players) → ps ≡ retuned_all x d v.players
-      → (w : SampleVoice) → w ≡ with_players ps v → w ≡ retuned_voice c fs bs v
-  unfolding retuned_voice
-  some-note n e f ef b eb d ed x ex ps eps w ew =
-      ew
-      ∙ ap (λ (p : Players). with_players p v)
-      (eps ∙ ap (λ y. retuned_all y d v.players) (ex ∙ ap (λ g. note_of g n.note_f) ef)
-      ∙ ap (λ y. retuned_all (note_of (input_at c.freq fs 0 f0) n.note_f) y v.players) (ed ∙ ap bend_of eb))
-      ∙ sym (ap (λ (m : Option NoteState). retuned_for c fs bs m v) e)
-
+module _ (ins : Signals) (v : SampleVoice) where
   module _ (s : Session) where
-    pub start_is : (o : Collected) → o ≡ collected_offs v.voice s → (w : SampleVoice) → w ≡ retuned_voice c fs bs v
-        → ◌≡◌ {A = Playing} (record { session = o.session; voice = w; offs = o.offs; from = 0 }) (started_block c fs bs s v)
+    pub start_is : (o : Collected) → o ≡ collected_offs v.voice s → (w : SampleVoice) → w ≡ retuned_voice ins v
+        → ◌≡◌ {A = Playing} (record { session = o.session; voice = w; offs = o.offs; from = 0 }) (started_block ins s v)
     unfolding started_block
     start_is o e w d =
         ap (λ (x : Collected). record { session = x.session; voice = w; offs = x.offs; from = 0 }) e
@@ -68,28 +52,28 @@ module _ (c : Connected) (fs bs : List Float) (v : SampleVoice) where
               ∙ omega (arith, length-drop (length (take 32 os)) (replicate 32 no_off), length-replicate 32 no_off);
         }
 
-    offs-started : OffsOk (started_block c fs bs s v).offs
+    offs-started : OffsOk (started_block ins s v).offs
     unfolding started_block collected_offs
     offs-started = offs-ok (off_times v.voice (view s))
 
-    pub started-from : (p : Playing) → p ≡ started_block c fs bs s v → p.from ≡ 0
+    pub started-from : (p : Playing) → p ≡ started_block ins s v → p.from ≡ 0
     unfolding started_block
     started-from p e = ap (λ (x : Playing). x.from) e
 
-    pub started-ok : (ws : List ℕ) → VoiceOk ws v → (p : Playing) → p ≡ started_block c fs bs s v → PlayersOk p.voice.players → PlayingOk ws p
+    pub started-ok : (ws : List ℕ) → VoiceOk ws v → (p : Playing) → p ≡ started_block ins s v → PlayersOk p.voice.players → PlayingOk ws p
     started-ok ws ok p e h = record {
       voice = record {
         players = h;
         bindable = ok.bindable;
-        regions = rw (ap (λ (x : Playing). x.voice.program) e ∙ (start-lasts c fs bs s v).program) ok.regions;
+        regions = rw (ap (λ (x : Playing). x.voice.program) e ∙ (start-lasts ins s v).program) ok.regions;
       };
       offs = rw (ap (λ (x : Playing). x.offs) e) offs-started;
     }
 
 -- ---- what it leans on
 
-pub covers-as : (b : Bool) (xs : List Float) (m n : ℕ) → m ≡ n → Covers b xs n → Covers b xs m
-covers-as b xs m n e h t = rw e (h t)
+pub covers-as : (input : Option (List Float)) (m n : ℕ) → m ≡ n → Covers input n → Covers input m
+covers-as input m n e h = rw e h
 
 module _ (l : Lent) (v : SampleVoice) (r : Ready l v) where
   pub cues-ok : CuesOk (cues_of l)
@@ -105,26 +89,26 @@ module _ (l : Lent) (v : SampleVoice) (r : Ready l v) where
     quality = r.quality;
   }
 
-  pub freq-there : Reaches l.connected.freq l.freq 0
-  freq-there e = lt_of_lt_of_le r.some (r.freq e)
+  pub freq-there : Reaches l.inputs.freq 0
+  freq-there = reaches l.inputs.freq r.freq r.some
 
-  pub bend-there : Reaches l.connected.bend l.bend 0
-  bend-there e = lt_of_lt_of_le r.some (r.bend e)
+  pub bend-there : Reaches l.inputs.bend 0
+  bend-there = reaches l.inputs.bend r.bend r.some
 
 -- ---- the whole
 
 pub played-is : (l : Lent) (s : Session) (v : SampleVoice) (xs ys : List Float) → xs ≡ replicate l.time.frames f0 → ys ≡ replicate l.time.frames f0
-    → (p : Playing) → p ≡ started_block l.connected l.freq l.bend s v
+    → (p : Playing) → p ≡ started_block l.inputs s v
     → (sc : Scene) → sc ≡ sounded_from (cues_of l) (record { playing = p; left = xs; right = ys })
-    → (ls rs : List Float) → ls ≡ amplified l.connected.amp l.amp sc.left → rs ≡ amplified l.connected.amp l.amp sc.right
+    → (ls rs : List Float) → ls ≡ amplified l.inputs.amp sc.left → rs ≡ amplified l.inputs.amp sc.right
     → ◌≡◌ {A = Played} (record { both = both_of sc.playing; left = ls; right = rs }) (played_block l s v)
 unfolding played_block block_start
 played-is l s v xs ys ex ey p ep sc e ls rs el er =
     let n : ℕ = l.time.frames in
-    let q : Playing = started_block l.connected l.freq l.bend s v in
+    let q : Playing = started_block l.inputs s v in
     let start : ◌≡◌ {A = Scene} (record { playing = p; left = xs; right = ys }) (block_start l s v)
     = ap (λ (x : Playing). record { playing = x; left = xs; right = ys }) ep ∙ ap (λ (x : List Float). record { playing = q; left = x; right = ys }) ex
     ∙ ap (λ (x : List Float). record { playing = q; left = replicate n f0; right = x }) ey in
     ap (λ (x : List Float). record { both = both_of sc.playing; left = x; right = rs }) el
-    ∙ ap (λ (x : List Float). record { both = both_of sc.playing; left = amplified l.connected.amp l.amp sc.left; right = x }) er
+    ∙ ap (λ (x : List Float). record { both = both_of sc.playing; left = amplified l.inputs.amp sc.left; right = x }) er
     ∙ ap (played_of l) (e ∙ ap (sounded_from (cues_of l)) start)

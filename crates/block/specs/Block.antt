@@ -20,32 +20,31 @@ use Rattle.events.specs.Voice.{Kit, with_players}
 use Rattle.events.specs.declared.Both.{Both}
 use Rattle.events.specs.declared.SampleVoice.{SampleVoice}
 use Rattle.block.specs.declared.BlockTime.{BlockTime}
-use Rattle.block.specs.declared.Connected.{Connected}
 use Rattle.block.specs.declared.Playing.{Playing}
-use Rattle.block.specs.Inputs.{Lent, Cues, cues_of, kit_of, sounds_of, input_at, gate_at, strike_at, bend_of, off_frame}
+use Rattle.block.specs.Inputs.{Signals, Lent, Cues, cues_of, kit_of, sounds_of, input_at, gate_at, strike_at, bend_of, off_frame}
 use Rattle.block.specs.Render.{Scene, both_of, with_both, rendered_to}
 
 -- ---- before the events
 
 -- the pitch of a sounding note: this block's first frequency and bend
-abbrev pub retuned_for : Connected → List Float → List Float → Option NoteState → SampleVoice → SampleVoice
-retuned_for c freq bend None v = v
-retuned_for c freq bend (Some n) v =
-    with_players (retuned_all (note_of (input_at c.freq freq 0 f0) n.note_f) (bend_of (input_at c.bend bend 0 f0)) v.players) v
+abbrev pub retuned_for : Signals → Option NoteState → SampleVoice → SampleVoice
+retuned_for x None v = v
+retuned_for x (Some n) v =
+    with_players (retuned_all (note_of (input_at x.freq 0 f0) n.note_f) (bend_of (input_at x.bend 0 f0)) v.players) v
 
-unfoldable pub retuned_voice : Connected → List Float → List Float → SampleVoice → SampleVoice
-retuned_voice c freq bend v = retuned_for c freq bend v.note v
+unfoldable pub retuned_voice : Signals → SampleVoice → SampleVoice
+retuned_voice x v = retuned_for x v.note v
 
 -- own off times are collected; pitch is set for all players
-unfoldable pub started_block : Connected → List Float → List Float → Session → SampleVoice → Playing
-started_block c freq bend s v =
+unfoldable pub started_block : Signals → Session → SampleVoice → Playing
+started_block x s v =
     let o = collected_offs v.voice s in
-    record { session = o.session; voice = retuned_voice c freq bend v; offs = o.offs; from = 0 }
+    record { session = o.session; voice = retuned_voice x v; offs = o.offs; from = 0 }
 
 -- and the outputs are clear
 unfoldable pub block_start : Lent → Session → SampleVoice → Scene
 block_start l s v = record {
-  playing = started_block l.connected l.freq l.bend s v;
+  playing = started_block l.inputs s v;
   left = replicate l.time.frames f0;
   right = replicate l.time.frames f0;
 }
@@ -122,13 +121,13 @@ abbrev pub turned_scene : Playing → Scene → Scene
 turned_scene p sc = record { playing = p; left = sc.left; right = sc.right }
 
 abbrev pub event_on : Cues → Scene → ℕ → Bool
-event_on c sc i = has_event c.time sc.playing.offs sc.playing.voice.gate_prev (gate_at c.connected.gate c.gate i) i
+event_on c sc i = has_event c.time sc.playing.offs sc.playing.voice.gate_prev (gate_at c.inputs.gate i) i
 
 -- the frames before frame i sound, and then its events act
 unfoldable pub event_turn : Cues → ℕ → Scene → Scene
 event_turn c i sc =
     let y = rendered_to (sounds_of c) i sc in
-    turned_scene (events_at (kit_of c) c.time i (strike_at c i) (gate_at c.connected.gate c.gate i) y.playing) y
+    turned_scene (events_at (kit_of c) c.time i (strike_at c i) (gate_at c.inputs.gate i) y.playing) y
 
 -- a frame without an event leaves the block as it stands
 unfoldable pub frame_turn : Cues → Scene → ℕ → Scene
@@ -149,8 +148,9 @@ times_each [] ys = []
 times_each (x ∷ xs) [] = x ∷ xs
 times_each (x ∷ xs) (y ∷ ys) = (x ⊗ y) ∷ times_each xs ys
 
-abbrev pub amplified : Bool → List Float → List Float → List Float
-amplified on amp xs = cond on (times_each xs amp) xs
+abbrev pub amplified : Option (List Float) → List Float → List Float
+amplified None xs = xs
+amplified (Some amp) xs = times_each xs amp
 
 -- the session, the voice and both outputs' frames that a block leaves
 pub record Played : Type 0 where
@@ -161,8 +161,8 @@ pub record Played : Type 0 where
 abbrev pub played_of : Lent → Scene → Played
 played_of l sc = record {
   both = both_of sc.playing;
-  left = amplified l.connected.amp l.amp sc.left;
-  right = amplified l.connected.amp l.amp sc.right;
+  left = amplified l.inputs.amp sc.left;
+  right = amplified l.inputs.amp sc.right;
 }
 
 unfoldable pub played_block : Lent → Session → SampleVoice → Played

@@ -5,7 +5,7 @@ use Rattle.session.specs.State.{view, relist, slot_list}
 use Rattle.session.specs.declared.Session.{Session}
 use Rattle.session.specs.declared.Slots.{Slots}
 use Rattle.players.specs.Mix.{Sounds, Mixture, played_all}
-use Rattle.players.specs.declared.Mixed.{Mixed}
+use Rattle.players.specs.Mix.{Mixed}
 use Rattle.gates.specs.Off.{reaped_both}
 use Rattle.events.specs.Voice.{with_players}
 use Rattle.events.specs.declared.Both.{Both}

@@ -1,25 +1,23 @@
 // The events of a block, with the frames between them; and the block's outputs.
 ghost use Rattle.std.specs.Prelude.{◌≡◌, false, not, ◌||◌, ◌≤◌, eqb, length, replicate};
+ghost use Rattle.std.specs.Option.{option_copied};
 ghost use Rattle.exact.specs.Single.{f0};
 ghost use Rattle.players.specs.Seats.{PlayersOk};
+ghost use Rattle.block.specs.Inputs.{signals_of};
 ghost use Rattle.block.specs.Block.{sounded_from, times_each, amplified};
 ghost use Rattle.block.specs.Ready.{PlayingOk, CuesOk, Covers};
 
 use super::calm::settle;
-use super::inputs::{first_off, gate_at, gate_turns, next_event, strike_at};
+use super::inputs::{Inputs, first_off, gate_at, gate_turns, next_event, strike_at};
 use super::turns::{edge, off_turns};
-use super::{BlockTime, Connected, Playing};
-use players::mix::{Tune, sound_all};
+use super::{BlockTime, Playing};
+use players::mix::{Sounds, sound_all};
 
 // Every frame 0.
 pub fn clear(xs: &mut [f32])
     ensures { xs.new ≡ replicate (length xs.old) f0 }
 {
-    let mut i: usize = 0;
-    while i < xs.len() {
-        xs[i] = 0.0;
-        i += 1;
-    }
+    xs.fill(0.0);
 }
 
 // Each frame by the amp input's.
@@ -27,22 +25,19 @@ pub fn amplify(xs: &mut [f32], amp: &[f32])
     requires { length xs.old ≤ length amp.now }
     ensures { xs.new ≡ times_each xs.old amp.now }
 {
-    let mut i: usize = 0;
-    while i < xs.len() {
-        xs[i] = xs[i] * amp[i];
-        i += 1;
+    for (i, x) in xs.iter_mut().enumerate() {
+        *x *= amp[i];
     }
 }
 
 // The same where the amp input is connected.
-pub fn amplify_if(on: bool, xs: &mut [f32], amp: &[f32])
-    requires { Covers on amp.now (length xs.old) }
-    ensures { xs.new ≡ amplified on amp.now xs.old }
+pub fn amplify_if(amp: Option<&[f32]>, xs: &mut [f32])
+    requires { Covers (option_copied amp) (length xs.old) }
+    ensures { xs.new ≡ amplified (option_copied amp.entry) xs.old }
 {
-    if !on {
-        return;
+    if let Some(amp) = amp {
+        amplify(xs, amp);
     }
-    amplify(xs, amp)
 }
 
 // Both outputs of a block.
@@ -53,23 +48,12 @@ pub fn clear_both(left: &mut [f32], right: &mut [f32])
     clear(right);
 }
 
-pub fn amplify_both(on: bool, amp: &[f32], left: &mut [f32], right: &mut [f32])
-    requires { Covers on amp.now (length left.old) × Covers on amp.now (length right.old) }
-    ensures { (left.new ≡ amplified on amp.now left.old) × (right.new ≡ amplified on amp.now right.old) }
+pub fn amplify_both(amp: Option<&[f32]>, left: &mut [f32], right: &mut [f32])
+    requires { Covers (option_copied amp) (length left.old) × Covers (option_copied amp) (length right.old) }
+    ensures { (left.new ≡ amplified (option_copied amp.entry) left.old) × (right.new ≡ amplified (option_copied amp.entry) right.old) }
 {
-    amplify_if(on, left, amp);
-    amplify_if(on, right, amp);
-}
-
-// The players sound as they are tuned.
-fn untuned() -> Tune
-    ensures { result.on ≡ false }
-{
-    Tune {
-        on: false,
-        note_f: 0.0,
-        bend: 0.0,
-    }
+    amplify_if(amp, left);
+    amplify_if(amp, right);
 }
 
 // Whether a part is to be settled: the data of `ended` players ended in it, or some player is over.
@@ -83,43 +67,43 @@ fn unsettled(ended: usize, over: bool) -> bool
 }
 
 // From event to event: the frames before it sound, then its off times act, and then an edge of the gate. The last part ends with the
-// block. Session and voice stay in their places; a call takes them by value only where something happens to them.
+// block. Session and voice stay in their places; a call takes them by value only where something happens to them. They are two, since
+// of the calls here one takes them as a `Playing` and two as they are: one value would be taken apart for each of the others. The four
+// lent parts of the program go down one by one, since players are lent three of them and events two. Two outputs and no struct of both,
+// which was tried: a method that lends a part of each gets no proof. What a `Playing` owes is said of the lent words, which it does not
+// hold, so it is no ghost field.
 pub fn play_frames(
     p: Playing,
     t: BlockTime,
-    c: Connected,
+    inputs: Inputs<'_>,
     words: &[u32],
     samples: &[u32],
     pcm: &[f32],
-    table: &[f32],
-    freq: &[f32],
-    gate: &[f32],
-    vel: &[f32],
-    seed: &[f32],
-    quality: &[f32],
+    table: &[f32; 8194],
     left: &mut [f32],
     right: &mut [f32],
 ) -> Playing
-    requires { PlayingOk words.now p × (p.from ≡ 0) × CuesOk (record { time = t; connected = c; words = words.now; samples = samples.now; pcm = pcm.now; table = table.now; freq = freq.now; gate = gate.now; vel = vel.now; seed = seed.now; quality = quality.now }) × (length left.old ≡ t.frames) × (length right.old ≡ t.frames) }
-    ensures { ((record { playing = result; left = left.new; right = right.new }) ≡ sounded_from (record { time = t; connected = c; words = words.now; samples = samples.now; pcm = pcm.now; table = table.now; freq = freq.now; gate = gate.now; vel = vel.now; seed = seed.now; quality = quality.now }) (record { playing = p; left = left.old; right = right.old })) × PlayersOk result.voice.players }
+    requires { PlayingOk words.now p × (p.from ≡ 0) × CuesOk (record { time = t; words = words.now; samples = samples.now; pcm = pcm.now; table = table.now; inputs = signals_of inputs }) × (length left.old ≡ t.frames) × (length right.old ≡ t.frames) }
+    ensures { ((record { playing = result; left = left.new; right = right.new }) ≡ sounded_from (record { time = t; words = words.now; samples = samples.now; pcm = pcm.now; table = table.now; inputs = signals_of inputs.entry }) (record { playing = p; left = left.old; right = right.old })) × PlayersOk result.voice.players }
 {
     let n = t.frames;
-    let offs = p.offs;
-    let prev = p.voice.gate_prev;
-    let x = untuned();
-    let mut ev = next_event(t, offs, prev, c.gate, gate, 0);
+    let sounds = Sounds {
+        samples,
+        frames: pcm,
+        table,
+    };
+    let mut ev = next_event(t, &p.offs, p.voice.gate_prev, inputs.gate, 0);
     let mut session = p.session;
     let mut voice = p.voice;
     let mut waiting = p.offs;
     let mut from = p.from;
+    // a `while`: `from` goes on by as many frames as lie before the event, and by none where two events are neighbours
     while from < n {
         if from < ev {
             let m = sound_all(
                 voice.players,
-                x,
-                samples,
-                pcm,
-                table,
+                None,
+                sounds,
                 &mut left[from..ev],
                 &mut right[from..ev],
             );
@@ -134,7 +118,7 @@ pub fn play_frames(
             }
         }
         if ev < n {
-            if first_off(t, waiting, ev) < waiting.count {
+            if first_off(t, &waiting, ev).is_some() {
                 let q = Playing {
                     session,
                     voice,
@@ -146,16 +130,15 @@ pub fn play_frames(
                 voice = r.voice;
                 waiting = r.offs;
             }
-            let g = gate_at(c.gate, gate, ev);
+            let g = gate_at(inputs.gate, ev);
             if gate_turns(voice.gate_prev, g) {
                 let at = t.offset + (ev as u64);
-                let k = strike_at(c, freq, vel, seed, quality, ev, at);
+                let k = strike_at(inputs, ev, at);
                 let b = edge(session, voice, words, samples, k, g);
                 session = b.session;
                 voice = b.voice;
             }
-            let turned = voice.gate_prev;
-            ev = next_event(t, waiting, turned, c.gate, gate, ev + 1);
+            ev = next_event(t, &waiting, voice.gate_prev, inputs.gate, ev + 1);
         }
     }
     Playing {

@@ -1,30 +1,46 @@
 // What a block reads of its inputs and of its off times.
-ghost use Rattle.std.specs.Prelude.{◌≡◌, true, ◌<◌, ◌≤◌, length};
-ghost use Rattle.session.specs.Lists.{used_of};
-ghost use Rattle.session.specs.Offs.{first_at};
-ghost use Rattle.block.specs.Inputs.{Reaches, Struck, input_at, gate_at, strike_from, bend_of, off_frame};
+ghost use Rattle.std.specs.Prelude.{◌≡◌, ◌<◌, ◌≤◌, leb, map, min, position};
+ghost use Rattle.std.specs.List.{filter, reduce};
+ghost use Rattle.std.specs.Option.{option_copied};
+ghost use Rattle.session.specs.declared.Off.{Off};
+ghost use Rattle.block.specs.Inputs.{Reaches, Struck, signals_of, input_at, gate_at, strike_from, bend_of, off_frame};
 ghost use Rattle.block.specs.Block.{off_list, falls_on, swap_removed, turns};
-ghost use Rattle.block.specs.Next.{earlier_of, next_gate, next_off, next_event};
+ghost use Rattle.block.specs.Next.{next_gate, next_off, next_event};
+ghost use Rattle.block.specs.Ready.{Covers};
 
-use super::{BlockTime, Connected};
+use super::BlockTime;
 use exact::order::{clamp_f32, is_finite_f32};
 use note::Strike;
-use session::Offs;
+use session::{Off, Offs};
+
+// The frames of each input; none where it is not connected.
+#[derive(Clone, Copy, Default)]
+pub struct Inputs<'a> {
+    pub freq: Option<&'a [f32]>,
+    pub gate: Option<&'a [f32]>,
+    pub vel: Option<&'a [f32]>,
+    pub amp: Option<&'a [f32]>,
+    pub seed: Option<&'a [f32]>,
+    pub bend: Option<&'a [f32]>,
+    pub quality: Option<&'a [f32]>,
+}
 
 // The input's frame i; unconnected, its default: the Rust's `read_input`.
-pub fn input_at(connected: bool, xs: &[f32], i: usize, default: f32) -> f32
-    requires { Reaches connected xs.now i }
-    ensures { result ≡ input_at connected xs.now i default }
+#[tactic(auto, unfolding(crate::specs::Inputs::input_at))]
+pub fn input_at(input: Option<&[f32]>, i: usize, default: f32) -> f32
+    requires { Reaches (option_copied input) i }
+    ensures { result ≡ input_at (option_copied input.entry) i default }
 {
-    if connected { xs[i] } else { default }
+    input.map_or(default, |xs| xs[i])
 }
 
 // Whether the gate is up on frame i.
-pub fn gate_at(connected: bool, gate: &[f32], i: usize) -> bool
-    requires { Reaches connected gate.now i }
-    ensures { result ≡ gate_at connected gate.now i }
+#[tactic(auto, unfolding(crate::specs::Inputs::gate_at))]
+pub fn gate_at(gate: Option<&[f32]>, i: usize) -> bool
+    requires { Reaches (option_copied gate) i }
+    ensures { result ≡ gate_at (option_copied gate.entry) i }
 {
-    0.0 < input_at(connected, gate, i, 1.0)
+    0.0 < input_at(gate, i, 1.0)
 }
 
 // The bend, held to -1 and 1.
@@ -39,79 +55,53 @@ pub fn bend_of(b: f32) -> f32
 }
 
 // The frame that an off time falls on.
+#[tactic(auto, unfolding(crate::specs::Inputs::off_frame))]
 pub fn off_frame(t: BlockTime, at: u64) -> usize
-    requires { 0 < t.frames }
     ensures { result ≡ off_frame t at }
 {
-    let last = t.frames - 1;
-    if at < t.offset {
-        return 0;
-    }
-    let past = (at - t.offset) as usize;
-    if past < last { past } else { last }
+    let past = at.saturating_sub(t.offset) as usize;
+    past.min(t.frames.saturating_sub(1))
 }
 
-fn used_offs(count: usize) -> usize
-    ensures { result ≡ used_of 32 count }
+// The off times that it counts.
+fn listed(q: &Offs) -> &[Off]
+    ensures { result.now ≡ off_list q.now }
 {
-    if count < 32 { count } else { 32 }
+    &q.offs[..q.count.min(32)]
 }
 
-// Where the first off time on frame i stands; past the others where there is none.
-pub fn first_off(t: BlockTime, q: Offs, i: usize) -> usize
-    requires { 0 < t.frames }
-    ensures { result ≡ first_at (falls_on t i) (off_list q) }
+// Where the first off time on frame i stands.
+pub fn first_off(t: BlockTime, q: &Offs, i: usize) -> Option<usize>
+    ensures { result ≡ position (falls_on t i) (off_list q.now) }
 {
-    let n = used_offs(q.count);
-    let mut j: usize = 0;
-    while j < n {
-        let o = q.offs[j];
-        let at = o.at;
-        if off_frame(t, at) == i {
-            return j;
-        }
-        j += 1;
-    }
-    j
+    listed(q).iter().position(|o| off_frame(t, o.at) == i)
 }
 
 // Takes entry k out; the last entry moves into its place.
-pub fn swap_remove(q: Offs, k: usize) -> Offs
-    requires { (k < q.count) × (q.count ≤ 32) }
-    ensures { result ≡ swap_removed k q }
+#[tactic(auto, unfolding(crate::specs::Block::swap_removed))]
+pub fn swap_remove(q: &mut Offs, k: usize)
+    requires { (k < q.old.count) × (q.old.count ≤ 32) }
+    ensures { q.new ≡ swap_removed k q.old }
 {
-    let last = q.count - 1;
-    let o = q.offs[last];
-    let mut t = q;
-    t.offs[k] = o;
-    t.count = last;
-    t
+    q.count -= 1;
+    q.offs[k] = q.offs[q.count];
 }
 
 // The inputs on the frame i of a rising gate, at the time `at`.
-pub fn strike_at(
-    c: Connected,
-    freq: &[f32],
-    vel: &[f32],
-    seed: &[f32],
-    quality: &[f32],
-    i: usize,
-    at: u64,
-) -> Strike
-    requires { Struck c freq.now vel.now seed.now quality.now i }
-    ensures { result ≡ strike_from c freq.now vel.now seed.now quality.now i at }
+#[tactic(auto, unfolding(crate::specs::Inputs::strike_from))]
+pub fn strike_at(inputs: Inputs<'_>, i: usize, at: u64) -> Strike
+    requires { Struck (signals_of inputs) i }
+    ensures { result ≡ strike_from (signals_of inputs.entry) i at }
 {
-    let f = input_at(c.freq, freq, i, 261.625_58);
+    let f = input_at(inputs.freq, i, 261.625_58);
     // 100 / 127
-    let v = input_at(c.vel, vel, i, 0.787_401_56);
-    let s = input_at(c.seed, seed, i, 0.0);
-    let q = input_at(c.quality, quality, i, 0.0);
+    let v = input_at(inputs.vel, i, 0.787_401_56);
+    let s = input_at(inputs.seed, i, 0.0);
     Strike {
         freq: f,
         vel: v,
         seed: s,
-        has_quality: c.quality,
-        quality: q,
+        quality: inputs.quality.map(|q| q[i]),
         at,
     }
 }
@@ -123,61 +113,42 @@ pub fn gate_turns(prev: bool, g: bool) -> bool
     if g { !prev } else { prev }
 }
 
-// The first frame from `from` to n on which the gate is not as before, or n.
-pub fn next_gate(prev: bool, gated: bool, gate: &[f32], from: usize, n: usize) -> usize
-    requires { (gated ≡ true → n ≤ length gate.now) × (from ≤ n) }
-    ensures { result ≡ next_gate prev gated gate.now from n }
+// The first frame from `from` to n on which the gate is not as before.
+#[tactic(auto, unfolding(crate::specs::Next::next_gate))]
+pub fn next_gate(prev: bool, gate: Option<&[f32]>, from: usize, n: usize) -> Option<usize>
+    requires { Covers (option_copied gate) n }
+    ensures { result ≡ next_gate prev (option_copied gate.entry) from n }
 {
-    let mut i = from;
-    while i < n {
-        if gate_turns(prev, gate_at(gated, gate, i)) {
-            return i;
-        }
-        i += 1;
-    }
-    i
+    (from..n).find(|i| gate_turns(prev, gate_at(gate, *i)))
 }
 
-// The earlier of two frames, the second one only where it is not before `from`.
-fn earlier(best: usize, f: usize, from: usize) -> usize
-    ensures { result ≡ earlier_of best f from }
+// The least frame from `from` on that one of the off times falls on.
+fn least_frame(t: BlockTime, offs: &[Off], from: usize) -> Option<usize>
+    ensures { result ≡ reduce min (filter (leb from) (map (λ (o : Off). off_frame t o.at) offs.now)) }
 {
-    if f < from {
-        return best;
-    }
-    if f < best { f } else { best }
+    offs.iter()
+        .map(|o| off_frame(t, o.at))
+        .filter(|f| from <= *f)
+        .min()
 }
 
-// The first frame from `from` on that an off time falls on, or the block's length.
-fn next_off(t: BlockTime, q: Offs, from: usize) -> usize
-    requires { (0 < t.frames) × (from ≤ t.frames) }
-    ensures { result ≡ next_off t q from }
+// The first frame from `from` on that an off time falls on.
+fn next_off(t: BlockTime, q: &Offs, from: usize) -> Option<usize>
+    requires { 0 < t.frames }
+    ensures { result ≡ next_off t q.now from }
 {
-    let n = used_offs(q.count);
-    let mut best = t.frames;
-    let mut j: usize = 0;
-    while j < n {
-        let o = q.offs[j];
-        let at = o.at;
-        best = earlier(best, off_frame(t, at), from);
-        j += 1;
-    }
-    best
+    least_frame(t, listed(q), from)
 }
 
-// The first frame from `from` on with an event, or the block's length.
-pub fn next_event(
-    t: BlockTime,
-    q: Offs,
-    prev: bool,
-    gated: bool,
-    gate: &[f32],
-    from: usize,
-) -> usize
-    requires { (0 < t.frames) × (from ≤ t.frames) × (gated ≡ true → t.frames ≤ length gate.now) }
-    ensures { result ≡ next_event t q prev gated gate.now from }
+// The first frame from `from` on with an event, or the block's length: the frames before it only sound. A bound and no option, since
+// its caller sounds up to it at once and would make the length of a None first; and its parts stay apart, since from one event to the
+// next `q` and `prev` change, and `t` and `gate` do not.
+#[tactic(auto, using(crate::proofs::Firsts::first_event))]
+pub fn next_event(t: BlockTime, q: &Offs, prev: bool, gate: Option<&[f32]>, from: usize) -> usize
+    requires { (0 < t.frames) × (from ≤ t.frames) × Covers (option_copied gate) t.frames }
+    ensures { result ≡ next_event t q.now prev (option_copied gate.entry) from }
 {
-    let off = next_off(t, q, from);
-    let edge = next_gate(prev, gated, gate, from, t.frames);
-    if off < edge { off } else { edge }
+    let off = next_off(t, q, from).unwrap_or(t.frames);
+    let edge = next_gate(prev, gate, from, t.frames).unwrap_or(t.frames);
+    off.min(edge)
 }

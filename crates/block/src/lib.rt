@@ -8,17 +8,17 @@ pub mod inputs;
 pub mod render;
 pub mod turns;
 
-ghost use Rattle.std.specs.Prelude.{◌≡◌};
+ghost use Rattle.std.specs.Prelude.{◌≡◌, ◌≤◌, length, take};
 ghost use Rattle.players.specs.Seats.{PlayersOk};
-ghost use Rattle.block.specs.Inputs.{Reaches};
+ghost use Rattle.block.specs.Inputs.{Reaches, signals_of};
 ghost use Rattle.block.specs.Block.{retuned_voice, started_block, played_block};
 ghost use Rattle.block.specs.Ready.{Ready};
 
+use calm::tune_of;
 use events::{Both, SampleVoice};
 use frames::{amplify_both, clear_both, play_frames};
 use gates::off::with_players;
-use inputs::{bend_of, input_at};
-use note::note_of;
+use inputs::Inputs;
 use players::retune;
 use session::{Offs, Session, collect_offs};
 
@@ -27,18 +27,6 @@ use session::{Offs, Session, collect_offs};
 pub struct BlockTime {
     pub frames: usize,
     pub offset: u64,
-}
-
-// Which of the lent inputs are connected.
-#[derive(Clone, Copy)]
-pub struct Connected {
-    pub freq: bool,
-    pub gate: bool,
-    pub vel: bool,
-    pub amp: bool,
-    pub seed: bool,
-    pub bend: bool,
-    pub quality: bool,
 }
 
 // A block under way: its off times still to act, and the frame up to which it has sounded.
@@ -51,34 +39,27 @@ pub struct Playing {
 }
 
 // The pitch of a sounding note: this block's first frequency and bend.
-fn retune_voice(v: SampleVoice, c: Connected, freq: &[f32], bend: &[f32]) -> SampleVoice
-    requires { PlayersOk v.players × Reaches c.freq freq.now 0 × Reaches c.bend bend.now 0 }
-    ensures { (result ≡ retuned_voice c freq.now bend.now v) × PlayersOk result.players }
+fn retune_voice(v: SampleVoice, inputs: Inputs<'_>) -> SampleVoice
+    requires { PlayersOk v.players × Reaches (signals_of inputs).freq 0 × Reaches (signals_of inputs).bend 0 }
+    ensures { (result ≡ retuned_voice (signals_of inputs.entry) v) × PlayersOk result.players }
 {
-    let note = v.note;
-    match note {
-        None => v,
-        Some(n) => {
-            let f = input_at(c.freq, freq, 0, 0.0);
-            let b = bend_of(input_at(c.bend, bend, 0, 0.0));
-            let note_f = note_of(f, n.note_f);
-            let players = v.players;
-            let retuned = retune(players, note_f, b);
-            with_players(v, retuned)
-        }
-    }
+    let Some(tune) = tune_of(v.note, inputs) else {
+        return v;
+    };
+    let players = retune(v.players, tune);
+    with_players(v, players)
 }
 
 // Own off times are collected; pitch is set for all players.
-fn start_block(s: Session, v: SampleVoice, c: Connected, freq: &[f32], bend: &[f32]) -> Playing
-    requires { PlayersOk v.players × Reaches c.freq freq.now 0 × Reaches c.bend bend.now 0 }
-    ensures { (result ≡ started_block c freq.now bend.now s v) × PlayersOk result.voice.players }
+fn start_block(s: Session, v: SampleVoice, inputs: Inputs<'_>) -> Playing
+    requires { PlayersOk v.players × Reaches (signals_of inputs).freq 0 × Reaches (signals_of inputs).bend 0 }
+    ensures { (result ≡ started_block (signals_of inputs.entry) s v) × PlayersOk result.voice.players }
 {
     let id = v.voice;
     let o = collect_offs(s, id);
     let session = o.session;
     let offs = o.offs;
-    let voice = retune_voice(v, c, freq, bend);
+    let voice = retune_voice(v, inputs);
     Playing {
         session,
         voice,
@@ -87,37 +68,35 @@ fn start_block(s: Session, v: SampleVoice, c: Connected, freq: &[f32], bend: &[f
     }
 }
 
+// The table's entries; those behind them are not read.
+fn entries_of(table: &[f32]) -> &[f32; 8194]
+    requires { 8194 ≤ length table.now }
+    ensures { result.now ≡ take 8194 table.now }
+{
+    table.first_chunk::<8194>().unwrap()
+}
+
 // One block into both outputs, each as long as the block.
 pub fn play_block(
     s: Session,
     v: SampleVoice,
     t: BlockTime,
-    c: Connected,
+    inputs: Inputs<'_>,
     words: &[u32],
     samples: &[u32],
     pcm: &[f32],
     table: &[f32],
-    freq: &[f32],
-    gate: &[f32],
-    vel: &[f32],
-    amp: &[f32],
-    seed: &[f32],
-    bend: &[f32],
-    quality: &[f32],
     left: &mut [f32],
     right: &mut [f32],
 ) -> Both
-    requires { Ready (record { time = t; connected = c; words = words.now; samples = samples.now; pcm = pcm.now; table = table.now; freq = freq.now; gate = gate.now; vel = vel.now; amp = amp.now; seed = seed.now; bend = bend.now; quality = quality.now; left = left.old; right = right.old }) v }
-    ensures { ((record { both = result; left = left.new; right = right.new }) ≡ played_block (record { time = t; connected = c; words = words.now; samples = samples.now; pcm = pcm.now; table = table.now; freq = freq.now; gate = gate.now; vel = vel.now; amp = amp.now; seed = seed.now; bend = bend.now; quality = quality.now; left = left.old; right = right.old }) s v) × PlayersOk result.voice.players }
+    requires { Ready (record { time = t; words = words.now; samples = samples.now; pcm = pcm.now; table = table.now; inputs = signals_of inputs; left = left.old; right = right.old }) v }
+    ensures { ((record { both = result; left = left.new; right = right.new }) ≡ played_block (record { time = t; words = words.now; samples = samples.now; pcm = pcm.now; table = table.now; inputs = signals_of inputs.entry; left = left.old; right = right.old }) s v) × PlayersOk result.voice.players }
 {
     clear_both(left, right);
-    let p = start_block(s, v, c, freq, bend);
-    let entries = &table[..8194];
-    let q = play_frames(
-        p, t, c, words, samples, pcm, entries, freq, gate, vel, seed, quality, left, right,
-    );
-    let on = c.amp;
-    amplify_both(on, amp, left, right);
+    let p = start_block(s, v, inputs);
+    let entries = entries_of(table);
+    let q = play_frames(p, t, inputs, words, samples, pcm, entries, left, right);
+    amplify_both(inputs.amp, left, right);
     let session = q.session;
     let voice = q.voice;
     Both { session, voice }

@@ -6,7 +6,7 @@ ghost use Rattle.block.specs.Ready.{VoiceOk, PlayingOk};
 
 use super::inputs::{first_off, swap_remove};
 use super::{BlockTime, Playing};
-use events::{Both, SampleVoice};
+use events::{Both, Kit, SampleVoice};
 use gates::gate::{note_off, note_on};
 use gates::off::apply_off;
 use note::Strike;
@@ -17,40 +17,36 @@ fn off_turn(p: Playing, words: &[u32], samples: &[u32], t: BlockTime, i: usize, 
     requires { PlayingOk words.now p × (t.offset + i < 2 ^ 64) × (j ≡ first_at (falls_on t i) (off_list p.offs)) × (j < p.offs.count) }
     ensures { (result ≡ off_turn (record { words = words.entry.now; samples = samples.now }) t i p) × PlayingOk words.entry.now result }
 {
-    let from = p.from;
-    let q = p.offs;
-    let o = q.offs[j];
-    let slot = o.slot;
+    let mut offs = p.offs;
+    let slot = offs.offs[j].slot;
     let at = t.offset + (i as u64);
-    let s = p.session;
-    let v = p.voice;
-    let n = v.program.regions;
-    let b = apply_off(s, v, words, samples, n, slot, at);
-    let offs = swap_remove(q, j);
-    let session = b.session;
-    let voice = b.voice;
+    let kit = Kit {
+        words,
+        samples,
+        regions: p.voice.program.regions,
+    };
+    let both = Both {
+        session: p.session,
+        voice: p.voice,
+    };
+    let b = apply_off(both, kit, slot, at);
+    swap_remove(&mut offs, j);
     Playing {
-        session,
-        voice,
+        session: b.session,
+        voice: b.voice,
         offs,
-        from,
+        from: p.from,
     }
 }
 
 // The off times on frame i act, first by first, until none is left.
 pub fn off_turns(p: Playing, words: &[u32], samples: &[u32], t: BlockTime, i: usize) -> Playing
-    requires { PlayingOk words.now p × (t.offset + i < 2 ^ 64) × (0 < t.frames) }
+    requires { PlayingOk words.now p × (t.offset + i < 2 ^ 64) }
     ensures { (result ≡ off_turns (record { words = words.entry.now; samples = samples.now }) t i p.offs.count p) × PlayingOk words.entry.now result }
 {
-    let offs = p.offs;
-    let mut n = offs.count;
-    let mut j = first_off(t, offs, i);
     let mut q = p;
-    while j < n {
+    while let Some(j) = first_off(t, &q.offs, i) {
         q = off_turn(q, words, samples, t, i, j);
-        let left = q.offs;
-        j = first_off(t, left, i);
-        n -= 1;
     }
     q
 }
@@ -60,13 +56,19 @@ pub fn edge(s: Session, v: SampleVoice, words: &[u32], samples: &[u32], x: Strik
     requires { VoiceOk words.now v }
     ensures { (result ≡ edge_turned (record { words = words.entry.now; samples = samples.now }) x g (record { session = s; voice = v })) × VoiceOk words.entry.now result.voice }
 {
-    let n = v.program.regions;
-    let at = x.at;
-    let mut w = v;
-    w.gate_prev = g;
+    let kit = Kit {
+        words,
+        samples,
+        regions: v.program.regions,
+    };
+    let turned = Both {
+        session: s,
+        voice: SampleVoice { gate_prev: g, ..v },
+    };
+    // two calls by a bool: an enum of the two edges would be made from g here, and used once
     if g {
-        note_on(s, w, words, samples, n, x)
+        note_on(turned, kit, x)
     } else {
-        note_off(s, w, words, samples, n, at)
+        note_off(turned, kit, x.at)
     }
 }

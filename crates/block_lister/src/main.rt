@@ -2,8 +2,8 @@
 #![tactic(auto)]
 
 use block_script::perform::perform;
-use lister::feed::Feed;
+use lister::feed::{Feed, Scripts};
 
 fn main() {
-    perform(&mut Feed::new(false));
+    perform(&mut Feed::new(Scripts::One));
 }

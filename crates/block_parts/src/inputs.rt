@@ -1,36 +1,46 @@
-// The seven inputs of a block, 128 frames each: what I lines set.
-use block::Connected;
-use lines::block::{Input, Line, Set};
+// The seven inputs of a block as I lines set them.
+use block::inputs::Inputs;
+use lines::block::{Input, Set};
 
-fn connected_after(was: Connected, input: Input, on: bool) -> Connected {
-    match input {
-        Input::Freq => Connected { freq: on, ..was },
-        Input::Gate => Connected { gate: on, ..was },
-        Input::Vel => Connected { vel: on, ..was },
-        Input::Amp => Connected { amp: on, ..was },
-        Input::Seed => Connected { seed: on, ..was },
-        Input::Bend => Connected { bend: on, ..was },
-        Input::Quality => Connected { quality: on, ..was },
-    }
+// 128 frames of each, in the order of their numbers; none where it is disconnected.
+#[derive(Drop)]
+pub struct Held {
+    frames: [Option<[f32; 128]>; 7],
 }
 
-// From the frame to the last of the input.
-fn set_input(inputs: &mut [f32], input: Input, set: Set) {
-    if let Some(part) = inputs.chunks_exact_mut(128).nth(input as usize) {
-        let from = (set.frame as usize).min(part.len());
-        part[from..].fill(set.value);
+impl Held {
+    pub fn new() -> Held {
+        Held { frames: [None; 7] }
     }
-}
 
-// What a line does to the inputs, and which are connected then. One that is disconnected holds zeros.
-pub fn connect(inputs: &mut [f32], was: Connected, d: Line) -> Connected {
-    let Line::Input { input, set } = d else {
-        return was;
-    };
-    let zeros = Set {
-        frame: 0,
-        value: 0.0,
-    };
-    set_input(inputs, input, set.unwrap_or(zeros));
-    connected_after(was, input, set.is_some())
+    // From the frame to the last an input has the value. Before it, one that was disconnected has zeros.
+    pub fn set(&mut self, input: Input, set: Option<Set>) {
+        if let Some(held) = self.frames.get_mut(input as usize) {
+            *held = set.map(|set| {
+                let mut frames = held.unwrap_or([0.0; 128]);
+                let from = (set.frame as usize).min(128);
+                frames[from..].fill(set.value);
+                frames
+            });
+        }
+    }
+
+    fn input(&self, input: Input) -> Option<&[f32]> {
+        match self.frames.get(input as usize) {
+            Some(Some(frames)) => Some(frames),
+            _ => None,
+        }
+    }
+
+    pub fn inputs(&self) -> Inputs<'_> {
+        Inputs {
+            freq: self.input(Input::Freq),
+            gate: self.input(Input::Gate),
+            vel: self.input(Input::Vel),
+            amp: self.input(Input::Amp),
+            seed: self.input(Input::Seed),
+            bend: self.input(Input::Bend),
+            quality: self.input(Input::Quality),
+        }
+    }
 }

@@ -1,6 +1,4 @@
 // What performs a block lister's script: from a buffer over standard input to standard output.
 #![tactic(auto)]
 
-mod calls;
 pub mod perform;
-mod play;

@@ -1,80 +1,122 @@
 // The block lister: whole blocks as bits. It reads a program, voices, inputs and calls from standard input, one to a line, and prints what
 // each step leaves: outputs, records, counters and sequences.
-ghost use Rattle.std.specs.Prelude.{◌≡◌, length};
-
-use super::play::{Begun, play};
-use block::Connected;
-use block_parts::setup::{End, set_up};
+use block_parts::build::add;
+use block_parts::inputs::Held;
+use block_parts::show::{put_answer, put_outputs, put_sequences, put_state, put_voice};
+use events::SampleVoice;
+use lines::block::{Line, read_block_line};
+use lines::desk::PlayLine;
 use lister::feed::Feed;
-use lister::show::refuse;
-use program::bind::{BindError, bind};
+use lister::script;
+use lister::script::Script;
+use lister::text::Text;
+use live::Live;
+use live::refusal::Refusal;
+use std::fmt;
 
-// The first voice binds.
-fn start(
-    feed: &mut Feed,
-    line: u64,
-    rate: f32,
-    connected: Connected,
-    regions: usize,
-    words: &[u32],
-    samples: &[u32],
-    pcm: &[f32],
-    table: &[f32],
-    inputs: &mut [f32],
-)
-    requires { length inputs.old ≡ 896 }
-{
-    match bind(words, samples, pcm, table) {
-        Ok(program) => {
-            let g = Begun {
-                line,
-                rate,
-                connected,
-                regions,
-                program,
-            };
-            play(feed, g, words, samples, pcm, table, inputs);
+// The most frames that all samples have together.
+const FRAMES: usize = 65536;
+
+#[derive(Drop)]
+struct Blocks {
+    live: Live<FRAMES>,
+    inputs: Held,
+}
+
+// A refusal, with the region or sample that it names.
+#[derive(Drop)]
+struct Named(Refusal);
+
+impl From<Refusal> for Named {
+    fn from(r: Refusal) -> Named {
+        Named(r)
+    }
+}
+
+impl fmt::Display for Named {
+    fn fmt<W: fmt::Write>(&self, f: &mut fmt::Formatter<W>) -> fmt::Result {
+        write!(f, "{}", self.0)?;
+        match self.0.part() {
+            None => Ok(()),
+            Some(i) => write!(f, ",{i}"),
         }
-        Err(BindError::Counts) => refuse(line, 1, None),
-        Err(BindError::BadRegion(i)) => refuse(line, 2, Some(i as u64)),
-        Err(BindError::BadSample(i)) => refuse(line, 3, Some(i as u64)),
-        Err(BindError::BadTable) => refuse(line, 4, None),
+    }
+}
+
+impl Blocks {
+    // A call of its own, so that what it copies while it is made takes no room on the stack later.
+    #[inline(never)]
+    fn new() -> Blocks {
+        Blocks {
+            live: Live::new(),
+            inputs: Held::new(),
+        }
+    }
+
+    // What a step left of the session and of its voice.
+    fn show(&self, text: &mut Text, v: &SampleVoice) {
+        put_state(text, self.live.step, &self.live.session);
+        put_voice(text, self.live.step, v);
+    }
+
+    fn play(&mut self, text: &mut Text, b: PlayLine) -> Result<(), Refusal> {
+        let mut left = [0.0; 128];
+        let mut right = [0.0; 128];
+        let v = self
+            .live
+            .block(b, self.inputs.inputs(), &mut left, &mut right)?;
+        let n = (b.frames as usize).min(128);
+        put_outputs(text, self.live.step, &left[..n], &right[..n]);
+        self.show(text, &v);
+        put_sequences(
+            text,
+            self.live.step,
+            &self.live.session,
+            v.program.regions as usize,
+        );
+        Ok(())
+    }
+
+    // Does what a line asks for, and prints what that leaves.
+    fn step(&mut self, text: &mut Text, d: Line, line: &[u8]) -> Result<(), Refusal> {
+        match d {
+            Line::Voice { rate } => self.live.make(rate)?,
+            Line::Block(b) => self.play(text, b)?,
+            Line::Ask(id) => {
+                let finished = self.live.ask(id)?;
+                put_answer(text, self.live.step, finished);
+            }
+            Line::Reset(id) => {
+                let v = self.live.reset(id)?;
+                self.show(text, &v);
+            }
+            Line::Close(id) => {
+                self.live.close(id)?;
+                put_state(text, self.live.step, &self.live.session);
+            }
+            Line::Input { input, set } => self.inputs.set(input, set),
+            _ => add(self.live.unbound()?, d, line).ok_or(Refusal::Unreadable)?,
+        }
+        Ok(())
+    }
+}
+
+impl Script for Blocks {
+    type Refusal = Named;
+
+    fn take(&mut self, text: &mut Text, number: u64, line: &[u8]) -> Result<(), Named> {
+        let d = read_block_line(line).ok_or(Refusal::Unreadable)?;
+        match self.step(text, d, line) {
+            // A call that is refused leaves all as it was, and the script goes on.
+            Err(r @ Refusal::Call(_)) => text.line(format_args!("E,{number},{r}")),
+            done => done?,
+        }
+        Ok(())
     }
 }
 
 // One script from a fresh session.
 pub fn perform(feed: &mut Feed) {
-    let mut words = [0u32; 100744];
-    let mut samples = [0u32; 1028];
-    let mut pcm = [0.0f32; 65536];
-    let mut table = [0.0f32; 8194];
-    let mut inputs = [0.0f32; 896];
-    let u = set_up(
-        feed,
-        &mut words,
-        &mut samples,
-        &mut pcm,
-        &mut table,
-        &mut inputs,
-    );
-    let regions = u.made.regions;
-    let w = &words[..regions * 392];
-    let s = &samples[..u.made.samples * 4];
-    match u.end {
-        End::Voice(rate) => start(
-            feed,
-            u.line,
-            rate,
-            u.connected,
-            regions,
-            w,
-            s,
-            &pcm,
-            &table,
-            &mut inputs,
-        ),
-        End::Refused => refuse(u.line, 10, None),
-        End::Over => {}
-    }
-    feed.skip();
+    let mut blocks = Blocks::new();
+    script::perform(feed, &mut blocks);
 }

@@ -1,93 +1,120 @@
 // The public calls on a state: what each answers, and whether a call that is turned back leaves everything as it was.
-use super::same::{same_session, same_voice};
-use events::SampleVoice;
+ghost use Rattle.std.specs.Prelude.{◌<◌, ◌^◌};
+
+use super::lend::Lent;
+use super::same::SameBits;
+use block::BlockTime;
+use block::inputs::Inputs;
+use events::Both;
 use program::bind::BoundProgram;
 use session::Session;
-use voice::{Answer, close, is_finished, make, reset};
+use std::fmt;
+use voice::{Refusal, block, close, is_finished, make, reset};
 
-// Standard output.
-const STDOUT_FILENO: i32 = 1;
+// What a call left: done, or turned back with everything as it was or not. The worst stands last.
+#[derive(Clone, Copy, PartialEq, Eq, PartialOrd, Ord)]
+pub enum Left {
+    Done,
+    Kept,
+    Broken,
+}
 
-// What a call left: done, or turned back with everything as it was or not.
-pub const DONE: u32 = 0;
-
-pub const KEPT: u32 = 1;
-
-pub const BROKEN: u32 = 2;
-
-fn number(a: Answer) -> u64 {
-    match a {
-        Answer::Done => 0,
-        Answer::BadRate => 5,
-        Answer::TooManyVoices => 6,
-        Answer::BadBlock => 7,
-        Answer::BadState => 8,
-        Answer::TooLate => 9,
+// The end of a line.
+impl fmt::Display for Left {
+    fn fmt<W: fmt::Write>(&self, f: &mut fmt::Formatter<W>) -> fmt::Result {
+        f.write_str(match self {
+            Left::Done => "",
+            Left::Kept => ", unchanged",
+            Left::Broken => ", CHANGED",
+        })
     }
 }
 
-pub fn say(text: &[u8]) {
-    io::write_all(STDOUT_FILENO, text);
+// What a call answered, 0 or 01's number, and what it left.
+#[derive(Clone, Copy)]
+pub struct Outcome {
+    pub number: u64,
+    pub left: Left,
 }
 
-pub fn say_number(n: u64) {
-    io::print_decimal(STDOUT_FILENO, n);
-}
-
-// Prints an answer; what it means where `same` says that nothing has changed.
-pub fn left(a: Answer, same: bool) -> u32 {
-    let n = number(a);
-    say_number(n);
-    if n == 0 {
-        return DONE;
-    }
-    if same { KEPT } else { BROKEN }
-}
-
-// The end of a line: of the calls that were turned back, whether they left everything as it was.
-pub fn end_line(a: u32, b: u32, c: u32) {
-    if a == BROKEN || b == BROKEN || c == BROKEN {
-        say(b", CHANGED\n");
-    } else if a == KEPT || b == KEPT || c == KEPT {
-        say(b", unchanged\n");
-    } else {
-        say(b"\n");
+// Of a call that answered so, where `same` says that nothing has changed.
+fn outcome_of(answer: Result<(), Refusal>, same: bool) -> Outcome {
+    match answer {
+        Ok(()) => Outcome {
+            number: 0,
+            left: Left::Done,
+        },
+        Err(refusal) => Outcome {
+            number: refusal.number(),
+            left: if same { Left::Kept } else { Left::Broken },
+        },
     }
 }
 
-pub fn show_make(text: &[u8], s: Session, rate: f32, program: BoundProgram) {
-    say(text);
-    say(b": make ");
-    let m = make(s, rate, program);
-    let a = m.answer;
-    let k = left(a, same_session(s, m.session));
-    end_line(k, DONE, DONE);
+pub fn making(s: &Session, rate: f32, program: BoundProgram) -> Outcome {
+    let m = make(*s, rate, program);
+    outcome_of(m.answer, m.session == *s)
 }
 
-pub fn show_asked(
-    s: Session,
-    v: SampleVoice,
-    words: &[u32],
-    samples: &[u32],
-    pcm: &[f32],
-    table: &[f32],
-) {
-    let f = is_finished(s, v, words, samples, pcm, table);
-    let a = f.answer;
-    say(b", asked ");
-    say_number(number(a));
+// What outputs hold before a block.
+const BEFORE: f32 = 0.25;
+
+fn is_untouched(output: &[f32]) -> bool {
+    output.iter().all(|x| *x == BEFORE)
 }
 
-pub fn show_reset(s: Session, v: SampleVoice) -> u32 {
-    let r = reset(s, v);
-    let a = r.answer;
-    say(b", reset ");
-    left(a, same_session(s, r.session) && same_voice(v, r.voice))
+// A block into outputs of L and R frames. The bounds say that such arrays fit in memory.
+pub fn playing<const L: usize, const R: usize>(
+    b: &Both,
+    t: BlockTime,
+    inputs: Inputs<'_>,
+    lent: Lent<'_>,
+) -> Outcome
+    requires { L < 2 ^ 61 × R < 2 ^ 61 }
+{
+    let mut left = [BEFORE; L];
+    let mut right = [BEFORE; R];
+    let m = block(
+        b.session,
+        b.voice,
+        t,
+        inputs,
+        lent.words,
+        lent.samples,
+        lent.pcm,
+        lent.table,
+        &mut left,
+        &mut right,
+    );
+    let same = m.session == b.session && m.voice.same_bits(&b.voice);
+    outcome_of(
+        m.answer,
+        same && is_untouched(&left) && is_untouched(&right),
+    )
 }
 
-pub fn show_close(s: Session, v: SampleVoice) -> u32 {
-    let c = close(s, v);
-    let a = c.answer;
-    say(b", close ");
-    left(a, same_session(s, c.session))
+// The number of the answer alone: asking hands nothing back.
+pub fn asking(b: &Both, lent: Lent<'_>) -> u64 {
+    let answer = is_finished(
+        b.session,
+        b.voice,
+        lent.words,
+        lent.samples,
+        lent.pcm,
+        lent.table,
+    );
+    answer.map_or_else(Refusal::number, |_| 0)
+}
+
+pub fn resetting(b: &Both) -> Outcome {
+    let r = reset(b.session, b.voice);
+    outcome_of(
+        r.answer,
+        r.session == b.session && r.voice.same_bits(&b.voice),
+    )
+}
+
+pub fn closing(b: &Both) -> Outcome {
+    let c = close(b.session, b.voice);
+    outcome_of(c.answer, c.session == b.session)
 }

@@ -1,413 +1,205 @@
-// Whether two states are the same, bit for bit: every place of every array, in use or not.
-use envelope::{EgState, Env};
+// Whether two voices are the same, bit for bit: every place of every array, in use or not. A session holds no float, so that its `==` says
+// as much.
+use envelope::Env;
 use events::SampleVoice;
 use exact::order::bits_f32;
-use filter::FilterShape;
-use interp::Interp;
+use filter::{Coefficients, FilterShape};
+use gain::Matrix;
+use interp::sinc::SincSpan;
 use note::NoteState;
 use player::{Cold, Hot, LoopRt, Player};
 use players::Players;
-use program::bind::BoundProgram;
-use program::region::{LoopMode, OffMode};
-use session::{LiveVoices, PlayerRecord, Sequences, Session};
+use std::num::f64_to_bits_with_nan;
 
-fn same_f32(a: f32, b: f32) -> bool {
-    bits_f32(a) == bits_f32(b)
+// Not `==`, which takes the two zeros for one and a NaN for none. Here every NaN is one.
+pub trait SameBits {
+    fn same_bits(&self, other: &Self) -> bool;
 }
 
-// Equal numbers have the same bits but for the two zeros, whose reciprocals differ.
-fn same_f64(a: f64, b: f64) -> bool {
-    if a != a {
-        return b != b;
-    }
-    a == b && 1.0 / a == 1.0 / b
-}
-
-// ---- a session
-
-fn same_off_by(a: Option<i32>, b: Option<i32>) -> bool {
-    match a {
-        None => match b {
-            None => true,
-            Some(_) => false,
-        },
-        Some(x) => match b {
-            None => false,
-            Some(y) => x == y,
-        },
+impl SameBits for f32 {
+    fn same_bits(&self, other: &f32) -> bool {
+        bits_f32(*self) == bits_f32(*other)
     }
 }
 
-fn same_off_at(a: Option<u64>, b: Option<u64>) -> bool {
-    match a {
-        None => match b {
-            None => true,
-            Some(_) => false,
-        },
-        Some(x) => match b {
-            None => false,
-            Some(y) => x == y,
-        },
+impl SameBits for f64 {
+    fn same_bits(&self, other: &f64) -> bool {
+        f64_to_bits_with_nan(*self) == f64_to_bits_with_nan(*other)
     }
 }
 
-fn same_marks(a: PlayerRecord, b: PlayerRecord) -> bool {
-    let x = a.off_by;
-    let y = b.off_by;
-    let p = a.off_at;
-    let q = b.off_at;
-    a.offed == b.offed && same_off_by(x, y) && same_off_at(p, q)
-}
-
-fn same_record(a: PlayerRecord, b: PlayerRecord) -> bool {
-    a.voice == b.voice
-        && a.slot == b.slot
-        && a.region == b.region
-        && a.group == b.group
-        && a.note == b.note
-        && a.vel == b.vel
-        && a.on_note == b.on_note
-        && a.start == b.start
-        && same_marks(a, b)
-}
-
-fn same_records(a: Session, b: Session) -> bool {
-    for i in 0..512 {
-        let x = a.players[i];
-        let y = b.players[i];
-        if !same_record(x, y) {
-            return false;
+impl<T: SameBits> SameBits for Option<T> {
+    fn same_bits(&self, other: &Option<T>) -> bool {
+        match (self, other) {
+            (None, None) => true,
+            (Some(a), Some(b)) => a.same_bits(b),
+            _ => false,
         }
     }
-    true
 }
 
-fn same_sequences(a: Sequences, b: Sequences) -> bool {
-    for i in 0..256 {
-        if a.seq_counter[i] != b.seq_counter[i] {
-            return false;
-        }
-        if a.seq_on[i] != b.seq_on[i] {
-            return false;
-        }
+impl<T: SameBits, const N: usize> SameBits for [T; N] {
+    fn same_bits(&self, other: &[T; N]) -> bool {
+        self.iter().zip(other).all(|(a, b)| a.same_bits(b))
     }
-    true
-}
-
-fn same_ids(a: LiveVoices, b: LiveVoices) -> bool {
-    for i in 0..16 {
-        if a.ids[i] != b.ids[i] {
-            return false;
-        }
-    }
-    true
-}
-
-fn same_voices(a: LiveVoices, b: LiveVoices) -> bool {
-    a.count == b.count && a.next_voice == b.next_voice && same_ids(a, b)
-}
-
-pub fn same_session(a: Session, b: Session) -> bool {
-    if a.count != b.count {
-        return false;
-    }
-    if a.event_serial != b.event_serial {
-        return false;
-    }
-    if a.held != b.held {
-        return false;
-    }
-    if !same_voices(a.voices, b.voices) {
-        return false;
-    }
-    if !same_sequences(a.seq, b.seq) {
-        return false;
-    }
-    same_records(a, b)
 }
 
 // ---- a player
 
-fn state_number(s: EgState) -> u8 {
-    match s {
-        EgState::Delay => 0,
-        EgState::Attack => 1,
-        EgState::Hold => 2,
-        EgState::Decay => 3,
-        EgState::Sustain => 4,
-        EgState::Release => 5,
-        EgState::Fadeout => 6,
-        EgState::Done => 7,
+impl SameBits for Env {
+    fn same_bits(&self, other: &Env) -> bool {
+        self.state == other.state
+            && self.delay == other.delay
+            && self.hold == other.hold
+            && self.free_running == other.free_running
+            && self.value.same_bits(&other.value)
+            && self.start.same_bits(&other.start)
+            && self.attack_step.same_bits(&other.attack_step)
+            && self.decay_rate.same_bits(&other.decay_rate)
+            && self.sustain.same_bits(&other.sustain)
+            && self.release_rate.same_bits(&other.release_rate)
+            && self.transition_delta.same_bits(&other.transition_delta)
+            && self.sample_rate.same_bits(&other.sample_rate)
     }
 }
 
-fn kernel_number(k: Interp) -> u8 {
-    match k {
-        Interp::Linear => 0,
-        Interp::Hermite => 1,
-        Interp::Sinc => 2,
+impl SameBits for Hot {
+    fn same_bits(&self, other: &Hot) -> bool {
+        self.pos.same_bits(&other.pos)
+            && self.data_delay == other.data_delay
+            && self.data_ended == other.data_ended
+            && self.offed == other.offed
+            && self.env.same_bits(&other.env)
     }
 }
 
-fn loop_number(m: LoopMode) -> u8 {
-    match m {
-        LoopMode::NoLoop => 0,
-        LoopMode::OneShot => 1,
-        LoopMode::Continuous => 2,
-        LoopMode::Sustain => 3,
+impl SameBits for LoopRt {
+    fn same_bits(&self, other: &LoopRt) -> bool {
+        self.start == other.start
+            && self.end == other.end
+            && self.fade == other.fade
+            && self.size.same_bits(&other.size)
     }
 }
 
-fn off_number(m: OffMode) -> u8 {
-    match m {
-        OffMode::Fast => 0,
-        OffMode::Normal => 1,
-        OffMode::Time => 2,
+impl SameBits for SincSpan {
+    fn same_bits(&self, other: &SincSpan) -> bool {
+        self.half == other.half && self.fc.same_bits(&other.fc)
     }
 }
 
-fn same_env(a: Env, b: Env) -> bool {
-    let x = a.state;
-    let y = b.state;
-    state_number(x) == state_number(y)
-        && a.delay == b.delay
-        && a.hold == b.hold
-        && a.free_running == b.free_running
-        && same_f32(a.value, b.value)
-        && same_f32(a.start, b.start)
-        && same_f32(a.attack_step, b.attack_step)
-        && same_rates(a, b)
-}
-
-fn same_rates(a: Env, b: Env) -> bool {
-    same_f32(a.decay_rate, b.decay_rate)
-        && same_f32(a.sustain, b.sustain)
-        && same_f32(a.release_rate, b.release_rate)
-        && same_f32(a.transition_delta, b.transition_delta)
-        && same_f32(a.sample_rate, b.sample_rate)
-}
-
-fn same_hot(a: Hot, b: Hot) -> bool {
-    same_f64(a.pos, b.pos)
-        && a.data_delay == b.data_delay
-        && a.data_ended == b.data_ended
-        && a.offed == b.offed
-        && same_env(a.env, b.env)
-}
-
-fn same_points(a: LoopRt, b: LoopRt) -> bool {
-    a.start == b.start
-        && a.end == b.end
-        && a.xf == b.xf
-        && a.xf_out_start == b.xf_out_start
-        && same_f64(a.size, b.size)
-}
-
-fn same_loop(a: Option<LoopRt>, b: Option<LoopRt>) -> bool {
-    match a {
-        None => match b {
-            None => true,
-            Some(_) => false,
-        },
-        Some(x) => match b {
-            None => false,
-            Some(y) => same_points(x, y),
-        },
+impl SameBits for Matrix {
+    fn same_bits(&self, other: &Matrix) -> bool {
+        self.ll.same_bits(&other.ll)
+            && self.rl.same_bits(&other.rl)
+            && self.lr.same_bits(&other.lr)
+            && self.rr.same_bits(&other.rr)
     }
 }
 
-fn same_kinds(a: Cold, b: Cold) -> bool {
-    let k = a.interp;
-    let l = b.interp;
-    let m = a.loop_mode;
-    let n = b.loop_mode;
-    let p = a.off_mode;
-    let q = b.off_mode;
-    kernel_number(k) == kernel_number(l)
-        && loop_number(m) == loop_number(n)
-        && off_number(p) == off_number(q)
-}
-
-fn same_reading(a: Cold, b: Cold) -> bool {
-    let x = a.lp;
-    let y = b.lp;
-    let s = a.span;
-    let t = b.span;
-    same_f64(a.step, b.step)
-        && same_f32(s.fc, t.fc)
-        && s.half == t.half
+fn same_reading(a: &Cold, b: &Cold) -> bool {
+    a.step.same_bits(&b.step)
+        && a.span.same_bits(&b.span)
         && a.last == b.last
+        && a.interp == b.interp
         && a.stereo == b.stereo
         && a.silent == b.silent
-        && a.n_filters == b.n_filters
-        && same_loop(x, y)
+        && a.lp.same_bits(&b.lp)
+        && a.loop_mode == b.loop_mode
 }
 
-fn same_matrix(a: Cold, b: Cold) -> bool {
-    same_f32(a.gain, b.gain)
-        && same_f32(a.ll, b.ll)
-        && same_f32(a.rl, b.rl)
-        && same_f32(a.lr, b.lr)
-        && same_f32(a.rr, b.rr)
+fn same_sound(a: &Cold, b: &Cold) -> bool {
+    a.n_filters == b.n_filters
+        && a.gain.same_bits(&b.gain)
+        && a.matrix.same_bits(&b.matrix)
+        && a.off_mode == b.off_mode
+        && a.off_time.same_bits(&b.off_time)
+        && a.release_time.same_bits(&b.release_time)
 }
 
-fn same_pitch(a: Cold, b: Cold) -> bool {
-    same_f64(a.rate_ratio, b.rate_ratio)
-        && same_f32(a.base_cents, b.base_cents)
-        && same_f32(a.keytrack, b.keytrack)
-        && same_f32(a.keycenter, b.keycenter)
-        && same_f32(a.bend_up, b.bend_up)
-        && same_f32(a.bend_down, b.bend_down)
+fn same_pitch(a: &Cold, b: &Cold) -> bool {
+    a.rate_ratio.same_bits(&b.rate_ratio)
+        && a.base_cents.same_bits(&b.base_cents)
+        && a.keytrack.same_bits(&b.keytrack)
+        && a.keycenter.same_bits(&b.keycenter)
+        && a.bend_up.same_bits(&b.bend_up)
+        && a.bend_down.same_bits(&b.bend_down)
 }
 
-fn same_cold(a: Cold, b: Cold) -> bool {
-    same_f32(a.off_time, b.off_time)
-        && same_f32(a.release_time, b.release_time)
-        && same_kinds(a, b)
-        && same_reading(a, b)
-        && same_matrix(a, b)
-        && same_pitch(a, b)
-}
-
-// A filter's shape as numbers: its variant and coefficients.
-fn shape_numbers(s: FilterShape) -> [f32; 7] {
-    match s {
-        FilterShape::Off => [0.0, 0.0, 0.0, 0.0, 0.0, 0.0, 0.0],
-        FilterShape::Lp1 { p } => [1.0, p, 0.0, 0.0, 0.0, 0.0, 0.0],
-        FilterShape::Hp1 { p } => [2.0, p, 0.0, 0.0, 0.0, 0.0, 0.0],
-        FilterShape::Biquad { c, stages } => [3.0, c.b0, c.b1, c.b2, c.a1, c.a2, stages as f32],
+impl SameBits for Cold {
+    fn same_bits(&self, other: &Cold) -> bool {
+        same_reading(self, other) && same_sound(self, other) && same_pitch(self, other)
     }
 }
 
-fn same_shape(a: FilterShape, b: FilterShape) -> bool {
-    let xs = shape_numbers(a);
-    let ys = shape_numbers(b);
-    for i in 0..7 {
-        if !same_f32(xs[i], ys[i]) {
-            return false;
+impl SameBits for Coefficients {
+    fn same_bits(&self, other: &Coefficients) -> bool {
+        self.b0.same_bits(&other.b0)
+            && self.b1.same_bits(&other.b1)
+            && self.b2.same_bits(&other.b2)
+            && self.a1.same_bits(&other.a1)
+            && self.a2.same_bits(&other.a2)
+    }
+}
+
+impl SameBits for FilterShape {
+    fn same_bits(&self, other: &FilterShape) -> bool {
+        match (self, other) {
+            (FilterShape::Off, FilterShape::Off) => true,
+            (FilterShape::Lp1 { p }, FilterShape::Lp1 { p: q }) => p.same_bits(q),
+            (FilterShape::Hp1 { p }, FilterShape::Hp1 { p: q }) => p.same_bits(q),
+            (FilterShape::Biquad { c, stages }, FilterShape::Biquad { c: d, stages: n }) => {
+                c.same_bits(d) && stages == n
+            }
+            _ => false,
         }
     }
-    true
 }
 
-fn same_slots(a: Player, b: Player) -> bool {
-    for i in 0..6 {
-        let x = a.slots[i];
-        let y = b.slots[i];
-        if !same_shape(x, y) {
-            return false;
-        }
+impl SameBits for Player {
+    fn same_bits(&self, other: &Player) -> bool {
+        self.slot == other.slot
+            && self.region == other.region
+            && self.sample == other.sample
+            && self.on_note == other.on_note
+            && self.hot.same_bits(&other.hot)
+            && self.cold.same_bits(&other.cold)
+            && self.slots.same_bits(&other.slots)
+            && self.states.same_bits(&other.states)
     }
-    true
-}
-
-fn same_states(a: Player, b: Player) -> bool {
-    for i in 0..72 {
-        if !same_f32(a.states[i], b.states[i]) {
-            return false;
-        }
-    }
-    true
-}
-
-fn same_player(a: Player, b: Player) -> bool {
-    if a.slot != b.slot {
-        return false;
-    }
-    if a.region != b.region {
-        return false;
-    }
-    if a.sample != b.sample {
-        return false;
-    }
-    if a.on_note != b.on_note {
-        return false;
-    }
-    same_hot(a.hot, b.hot) && same_cold(a.cold, b.cold) && same_slots(a, b) && same_states(a, b)
-}
-
-fn same_players(a: Players, b: Players) -> bool {
-    if a.count != b.count {
-        return false;
-    }
-    for i in 0..32 {
-        let p = a.players[i];
-        let q = b.players[i];
-        if !same_player(p, q) {
-            return false;
-        }
-    }
-    true
 }
 
 // ---- a voice
 
-fn same_state(a: NoteState, b: NoteState) -> bool {
-    let k = a.interp;
-    let l = b.interp;
-    a.note == b.note
-        && a.vel == b.vel
-        && a.on_time == b.on_time
-        && a.seed == b.seed
-        && a.choke_released == b.choke_released
-        && same_f32(a.note_f, b.note_f)
-        && kernel_number(k) == kernel_number(l)
-}
-
-fn same_note(a: Option<NoteState>, b: Option<NoteState>) -> bool {
-    match a {
-        None => match b {
-            None => true,
-            Some(_) => false,
-        },
-        Some(x) => match b {
-            None => false,
-            Some(y) => same_state(x, y),
-        },
+impl SameBits for Players {
+    fn same_bits(&self, other: &Players) -> bool {
+        self.count == other.count && self.players.same_bits(&other.players)
     }
 }
 
-fn same_program(a: BoundProgram, b: BoundProgram) -> bool {
-    a.regions == b.regions && a.samples == b.samples && a.frames == b.frames
+impl SameBits for NoteState {
+    fn same_bits(&self, other: &NoteState) -> bool {
+        self.note == other.note
+            && self.vel == other.vel
+            && self.on_time == other.on_time
+            && self.seed == other.seed
+            && self.choke_released == other.choke_released
+            && self.interp == other.interp
+            && self.note_f.same_bits(&other.note_f)
+    }
 }
 
-fn same_scalars(a: SampleVoice, b: SampleVoice) -> bool {
-    a.voice == b.voice
-        && a.gate_prev == b.gate_prev
-        && a.gate_held == b.gate_held
-        && a.started == b.started
-        && a.next_slot == b.next_slot
-        && a.dropped == b.dropped
-        && same_f32(a.sample_rate, b.sample_rate)
-}
-
-pub fn same_voice(a: SampleVoice, b: SampleVoice) -> bool {
-    if !same_scalars(a, b) {
-        return false;
+impl SameBits for SampleVoice {
+    fn same_bits(&self, other: &SampleVoice) -> bool {
+        self.voice == other.voice
+            && self.gate_prev == other.gate_prev
+            && self.gate_held == other.gate_held
+            && self.started == other.started
+            && self.next_slot == other.next_slot
+            && self.dropped == other.dropped
+            && self.program == other.program
+            && self.sample_rate.same_bits(&other.sample_rate)
+            && self.note.same_bits(&other.note)
+            && self.players.same_bits(&other.players)
     }
-    let x = a.note;
-    let y = b.note;
-    if !same_note(x, y) {
-        return false;
-    }
-    if !same_program(a.program, b.program) {
-        return false;
-    }
-    same_players(a.players, b.players)
-}
-
-// ---- an output
-
-pub fn same_output(a: &[f32], b: &[f32]) -> bool {
-    if a.len() != b.len() {
-        return false;
-    }
-    let mut i: usize = 0;
-    while i < a.len() {
-        if !same_f32(a[i], b[i]) {
-            return false;
-        }
-        i += 1;
-    }
-    true
 }

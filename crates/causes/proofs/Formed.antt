@@ -1,10 +1,9 @@
 -- Test 8 from its parts. Assumes nothing.
 use Prim.Native.Nat.{ℕ, ◌≤◌}
 use mathlib.Core.Path.{◌≡◌, sym, ap, ◌∙◌}
-use mathlib.Core.Bool.{Bool, true, false, not, ◌&&◌}
+use mathlib.Core.Bool.{Bool, true, false, ◌&&◌}
 use mathlib.Core.List.{List}
 use lib.ListN.{length, length-map}
-use borrow.Author.Tests.{not-true, not-false}
 use Rattle.program.specs.Valid.{every}
 use Rattle.std.proofs.lemmas.List.Folds.{list_all-append}
 use Rattle.players.specs.Seats.{sounding, slots_from, slot_numbers}
@@ -16,7 +15,7 @@ use Rattle.session.specs.Tests.{slots_in_order}
 use Rattle.session.specs.declared.Session.{Session}
 use Rattle.session.specs.declared.Slots.{Slots}
 use Rattle.events.specs.declared.SampleVoice.{SampleVoice}
-use Rattle.causes.specs.Tests.{session_tests, voice_tests, well_formed, program_fits, state_fits}
+use Rattle.causes.specs.Tests.{session_tests, voice_tests, well_formed}
 
 -- the slots that the voice tells are its players'
 pub own-slots : (id : ℕ) (s : Session) (ps : Players) (ks : Slots) (b : Bool) → ks ≡ slots_from (slot_numbers (sounding ps))
@@ -26,17 +25,10 @@ own-slots id s ps ks b e f =
     f ∙ ap (λ (k : Slots). slots_in_order id (slot_list k) s) e ∙ ap (λ (k : List ℕ). slots_in_order id k s) (slots-from (slot_numbers (sounding ps)) few)
 
 module _ (s : Session) (v : SampleVoice) (b : Bool) (told : b ≡ every (session_tests v.voice s)) where
-  pub ill-formed : not b ≡ true → false ≡ well_formed s v
+  pub ill-formed : b ≡ false → b ≡ well_formed s v
   unfolding well_formed
-  ill-formed e = sym (list_all-append (λ t. t) (session_tests v.voice s) (voice_tests s v) ∙ ap (λ (t : Bool). t && every (voice_tests s v)) (sym told ∙ not-true b e))
+  ill-formed e = e ∙ sym (list_all-append (λ t. t) (session_tests v.voice s) (voice_tests s v) ∙ ap (λ (t : Bool). t && every (voice_tests s v)) (sym told ∙ e))
 
-  pub well : (r : Bool) → not b ≡ false → r ≡ every (voice_tests s v) → r ≡ well_formed s v
+  pub well : (r : Bool) → b ≡ true → r ≡ every (voice_tests s v) → r ≡ well_formed s v
   unfolding well_formed
-  well r e f = f ∙ sym (list_all-append (λ t. t) (session_tests v.voice s) (voice_tests s v) ∙ ap (λ (t : Bool). t && every (voice_tests s v)) (sym told ∙ not-false b e))
-
-module _ (s : Session) (v : SampleVoice) (ws ss : List ℕ) (frames table : ℕ) (b : Bool) (told : b ≡ well_formed s v) where
-  pub ill-stated : not b ≡ true → false ≡ state_fits s v ws ss frames table
-  ill-stated e = sym (ap (λ (t : Bool). t && program_fits v ws ss frames table) (sym told ∙ not-true b e))
-
-  pub stated : (r : Bool) → not b ≡ false → r ≡ program_fits v ws ss frames table → r ≡ state_fits s v ws ss frames table
-  stated r e f = f ∙ sym (ap (λ (t : Bool). t && program_fits v ws ss frames table) (sym told ∙ not-false b e))
+  well r e f = f ∙ sym (list_all-append (λ t. t) (session_tests v.voice s) (voice_tests s v) ∙ ap (λ (t : Bool). t && every (voice_tests s v)) (sym told ∙ e))

@@ -1,6 +1,6 @@
 -- A quiet block passes the tests 8 and 9, and the plain way plays nothing else. Assumes nothing.
 use Rattle.std.specs.List.{list_any}
-use Rattle.std.specs.Prelude.{cond, filter, ◌||◌}
+use Rattle.std.specs.Prelude.{cond, filter, ◌||◌, Some}
 use Prim.Native.Nat.{ℕ}
 use mathlib.Core.Path.{◌≡◌, refl, ap, ◌∙◌}
 use mathlib.Core.Bool.{Bool, true, false, true≢false}
@@ -26,9 +26,10 @@ use Rattle.block.specs.Inputs.{Lent}
 use Rattle.block.specs.Ready.{Covers}
 use Rattle.block.specs.Block.{played_block}
 use Rattle.block.proofs.Quiet.{quiet_block, quiet_is}
-use Rattle.causes.specs.Tests.{over_players, well_formed, program_fits, state_fits, parts_fit, lengths_of, in_time, fit_tests}
-use Rattle.causes.specs.Quiet.{rest_tests, quiet_tests, is_quiet}
-use Rattle.causes.proofs.Tallies.{fit-tells}
+use Rattle.causes.specs.Tests.{live_tests, over_players, well_formed, program_fits, state_fits, parts_fit, lent_fits, in_time, fit_tests}
+use Rattle.causes.specs.Quiet.{rest_tests, ground_tests, quiet_tests, is_quiet}
+use Rattle.causes.specs.Others.{outside}
+use Rattle.causes.proofs.Tallies.{fit-tells, region-tells, none-is}
 use Rattle.causes.proofs.Passed.{connected-fits}
 
 -- ---- no player, and no record of the voice
@@ -65,56 +66,63 @@ module _ (s : Session) (v : SampleVoice) (silent : v.players.count ≡ 0) where
 
 -- ---- inputs that the block reads
 
-module _ (l : Lent) (fits : parts_fit l.time.frames l.connected (lengths_of l) ≡ true) where
-  fit : (i : ℕ) → get_or (fit_tests l.time.frames l.connected (lengths_of l)) i true ≡ true
+module _ (l : Lent) (fits : lent_fits l ≡ true) where
+  fit : (i : ℕ) → get_or (fit_tests l.time.frames l.inputs (length l.left) (length l.right)) i true ≡ true
   unfolding parts_fit
-  fit i = every-at (fit_tests l.time.frames l.connected (lengths_of l)) i fits
+  fit i = every-at (fit_tests l.time.frames l.inputs (length l.left) (length l.right)) i fits
 
-  pub gate-covers : Covers l.connected.gate l.gate l.time.frames
-  gate-covers = connected-fits l.connected.gate (length l.gate) l.time.frames (fit 5)
+  pub gate-covers : Covers l.inputs.gate l.time.frames
+  gate-covers = connected-fits l.inputs.gate l.time.frames (fit 5)
 
-  pub amp-covers : Covers l.connected.amp l.amp l.time.frames
-  amp-covers = connected-fits l.connected.amp (length l.amp) l.time.frames (fit 7)
+  pub amp-covers : Covers l.inputs.amp l.time.frames
+  amp-covers = connected-fits l.inputs.amp l.time.frames (fit 7)
 
 -- ---- what the quiet tests tell
 
 module _ (l : Lent) (s : Session) (v : SampleVoice)
-    (quiet : is_quiet l.time l.connected l.gate l.words l.samples (length l.pcm) (length l.table) s v ≡ true) where
-  at : (i : ℕ) → get_or (quiet_tests l.time l.connected l.gate l.words l.samples (length l.pcm) (length l.table) s v) i true ≡ true
+    (quiet : is_quiet l.time l.inputs.gate l.words l.samples (length l.pcm) (length l.table) s v ≡ true) where
+  at : (i : ℕ) → get_or (quiet_tests l.time l.inputs.gate l.words l.samples (length l.pcm) (length l.table) s v) i true ≡ true
   unfolding is_quiet
-  at i = every-at (quiet_tests l.time l.connected l.gate l.words l.samples (length l.pcm) (length l.table) s v) i quiet
+  at i = every-at (quiet_tests l.time l.inputs.gate l.words l.samples (length l.pcm) (length l.table) s v) i quiet
+
+  ground : (i : ℕ) → get_or (ground_tests l.time l.words l.samples (length l.pcm) (length l.table) s v) i true ≡ true
+  ground i = every-at (ground_tests l.time l.words l.samples (length l.pcm) (length l.table) s v) i (at 1)
 
   rest : (i : ℕ) → get_or (rest_tests s v) i true ≡ true
-  rest i = every-at (rest_tests s v) i (at 1)
+  rest i = every-at (rest_tests s v) i (ground 0)
+
+  live : (i : ℕ) → get_or (live_tests v.voice s) i true ≡ true
+  live i = every-at (live_tests v.voice s) i (rest 0)
 
   silent : v.players.count ≡ 0
   silent = eqb-true v.players.count 0 (at 0)
 
-  listed : (stray_record s ≡ false) × (over_voice s ≡ false) × (region_outside v.program.regions s ≡ false) × (list_any (of_voice v.voice) (view s) ≡ false)
-  listed = fit-tells v.program.regions v.voice s (at 2)
+  listed : (stray_record s ≡ false) × (over_voice s ≡ false) × (list_any (outside (Some v.program.regions)) (view s) ≡ false) × (list_any (of_voice v.voice) (view s) ≡ false)
+  listed = fit-tells (Some v.program.regions) (Some v.voice) s (at 2)
 
   formed : well_formed s v ≡ true
   unfolding well_formed
   formed =
       let x = listed in
-      let h = rest 0 in
-      let i = rest 1 in
-      let j = rest 2 in
-      let k = rest 3 in
-      let m = rest 4 in
-      let n = rest 5 in
+      let y = region-tells v.program.regions s x.2 in
+      let h = live 0 in
+      let i = live 1 in
+      let j = live 2 in
+      let k = live 3 in
+      let m = rest 1 in
+      let n = rest 2 in
       let p = none_over s v silent in
       let q = none-unfit s v silent in
       let r = own-order s v silent x.3 in
-      simp (h, i, j, k, m, n, p, q, r, x.0, x.1, x.2)
+      simp (h, i, j, k, m, n, p, q, r, y, x.0, x.1)
 
   pub quiet-state : state_fits s v l.words l.samples (length l.pcm) (length l.table) ≡ true
   unfolding program_fits
-  quiet-state = simp (formed, at 3, none-past s v silent l.samples)
+  quiet-state = simp (formed, ground 1, none-past s v silent l.samples)
 
   pub quiet-time : in_time l.time.offset s.event_serial ≡ true
-  quiet-time = at 4
+  quiet-time = ground 2
 
   pub quiet-played : length s.players ≡ 512 → quiet_block l s v ≡ played_block l s v
   quiet-played size =
-      quiet_is l s v size (ltb-false 512 s.count (not-true _ (rest 3))) silent listed.3 (eqb-true _ _ (at 5))
+      quiet_is l s v size (ltb-false 512 s.count (not-true _ (live 3))) silent listed.3 (none-is _ (at 3))

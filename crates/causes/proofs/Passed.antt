@@ -1,7 +1,8 @@
 -- What the tests 7 to 9 leave to the block: they pass, and all that the block leans on holds. Assumes nothing.
+use Rattle.std.specs.Prelude.{Option, Some, None}
 use Prim.Native.Nat.{ℕ, ◌+◌, ◌-◌, ◌*◌, ◌/◌, ◌^◌, ◌<◌, ◌≤◌}
 use mathlib.Core.Path.{◌≡◌, refl, sym, ap, subst, ◌∙◌}
-use mathlib.Core.Bool.{Bool, true, false, not, ◌&&◌, cond, true≢false}
+use mathlib.Core.Bool.{Bool, true, false, not, ◌&&◌, ◌||◌, cond, true≢false}
 use mathlib.Core.List.{List, [], ◌∷◌, map}
 use native.Mathlib.Nat.{div-lt_iff_lt-mul, sub-zero}
 use native.Mathlib.Omega.{arith}
@@ -24,8 +25,8 @@ use Rattle.session.specs.declared.Session.{Session}
 use Rattle.events.specs.Voice.{Bindable}
 use Rattle.events.specs.declared.SampleVoice.{SampleVoice}
 use Rattle.block.specs.Inputs.{Lent}
-use Rattle.block.specs.Ready.{VoiceOk, Ready}
-use Rattle.causes.specs.Tests.{is_short, fit_tests, parts_fit, lengths_of, form_tests, well_formed, program_fits, in_time, state_fits}
+use Rattle.block.specs.Ready.{VoiceOk, Covers, Ready}
+use Rattle.causes.specs.Tests.{is_short, fit_tests, parts_fit, lent_fits, form_tests, well_formed, program_fits, in_time, state_fits}
 
 true-is : (t : Bool) → t ≡ true → T t
 true-is true e = tt
@@ -97,35 +98,40 @@ both : (a b : Bool) → (a && b) ≡ true → (a ≡ true) × (b ≡ true)
 both true b e = (refl, e)
 both false b e = absurd (true≢false (sym e))
 
-pub connected-fits : (t : Bool) (k n : ℕ) → not (is_short t k n) ≡ true → t ≡ true → n ≤ k
-connected-fits t k n e p = ltb-false k n (sym (simp p) ∙ not-true (is_short t k n) e)
+-- none of seven, each by itself
+pub none_short : (a b c d e f g : Bool) → not (a || (b || (c || (d || (e || (f || (g || false))))))) ≡ every (not a ∷ not b ∷ not c ∷ not d ∷ not e ∷ not f ∷ not g ∷ [])
+none_short true b c d e f g = refl
+none_short false true c d e f g = refl
+none_short false false true d e f g = refl
+none_short false false false true e f g = refl
+none_short false false false false true f g = refl
+none_short false false false false false true g = refl
+none_short false false false false false false true = refl
+none_short false false false false false false false = refl
+
+pub connected-fits : (x : Option (List Float)) (n : ℕ) → not (is_short x n) ≡ true → Covers x n
+connected-fits None n e = tt
+connected-fits (Some xs) n e = ltb-false (length xs) n (not-true (ltb (length xs) n) e)
 
 -- what was lent, with these outputs
 abbrev pub with_outs : Lent → List Float → List Float → Lent
 with_outs l left right = record {
   time = l.time;
-  connected = l.connected;
   words = l.words;
   samples = l.samples;
   pcm = l.pcm;
   table = l.table;
-  freq = l.freq;
-  gate = l.gate;
-  vel = l.vel;
-  amp = l.amp;
-  seed = l.seed;
-  bend = l.bend;
-  quality = l.quality;
+  inputs = l.inputs;
   left = left;
   right = right;
 }
 
 -- ---- all tests together
 module _ (l : Lent) (s : Session) (v : SampleVoice) where
-  module _ (e : parts_fit l.time.frames l.connected (lengths_of l) ≡ true) where
-    fit : (i : ℕ) → get_or (fit_tests l.time.frames l.connected (lengths_of l)) i true ≡ true
+  module _ (e : lent_fits l ≡ true) where
+    fit : (i : ℕ) → get_or (fit_tests l.time.frames l.inputs (length l.left) (length l.right)) i true ≡ true
     unfolding parts_fit
-    fit i = every-at (fit_tests l.time.frames l.connected (lengths_of l)) i e
+    fit i = every-at (fit_tests l.time.frames l.inputs (length l.left) (length l.right)) i e
 
     pub in_left : l.time.frames ≤ length l.left
     in_left = leb-true _ _ (fit 2)
@@ -150,13 +156,12 @@ module _ (l : Lent) (s : Session) (v : SampleVoice) where
           regions = few-regions v.program l.words l.samples _ _ bound;
         }
 
-    pub tests-ready : parts_fit l.time.frames l.connected (lengths_of l) ≡ true → in_time l.time.offset s.event_serial ≡ true
+    pub tests-ready : lent_fits l ≡ true → in_time l.time.offset s.event_serial ≡ true
         → (left right : List Float) → length left ≡ l.time.frames → length right ≡ l.time.frames → Ready (with_outs l left right) v
     unfolding in_time
     tests-ready e timely left right f g =
         let n = l.time.frames in
-        let c = l.connected in
-        let x = lengths_of l in
+        let x = l.inputs in
         let no : n ≡ 0 → ⊥ = eqb-false n 0 (not-true (eqb n 0) (fit e 0)) in
         record {
           voice = voice-ok;
@@ -164,13 +169,13 @@ module _ (l : Lent) (s : Session) (v : SampleVoice) where
           most = leb-true n 128 (fit e 1);
           offset = leb-true l.time.offset (2 ^ 63) (every-at (leb l.time.offset (2 ^ 63) ∷ leb s.event_serial (2 ^ 63) ∷ []) 0 timely);
           table = table-enough v.program l.words l.samples (length l.pcm) (length l.table) bound;
-          freq = connected-fits c.freq x.freq n (fit e 4);
-          gate = connected-fits c.gate x.gate n (fit e 5);
-          vel = connected-fits c.vel x.vel n (fit e 6);
-          amp = connected-fits c.amp x.amp n (fit e 7);
-          seed = connected-fits c.seed x.seed n (fit e 8);
-          bend = connected-fits c.bend x.bend n (fit e 9);
-          quality = connected-fits c.quality x.quality n (fit e 10);
+          freq = connected-fits x.freq n (fit e 4);
+          gate = connected-fits x.gate n (fit e 5);
+          vel = connected-fits x.vel n (fit e 6);
+          amp = connected-fits x.amp n (fit e 7);
+          seed = connected-fits x.seed n (fit e 8);
+          bend = connected-fits x.bend n (fit e 9);
+          quality = connected-fits x.quality n (fit e 10);
           left = f;
           right = g;
         }
@@ -181,7 +186,7 @@ part_length n xs h = ap (λ (k : ℕ). length (take k xs)) (sub-zero n) ∙ leng
 
 module _ (l : Lent) (s : Session) (v : SampleVoice) where
   -- tests 7 to 9 in the form in which the call has them
-  pub ready : length v.players.players ≡ 32 → parts_fit l.time.frames l.connected (lengths_of l) ≡ true
+  pub ready : length v.players.players ≡ 32 → lent_fits l ≡ true
       → state_fits s v l.words l.samples (length l.pcm) (length l.table) ≡ true → in_time l.time.offset s.event_serial ≡ true
       → Ready (with_outs l (take (l.time.frames - 0) (drop 0 l.left)) (take (l.time.frames - 0) (drop 0 l.right))) v
   ready size fits state timely =

@@ -1,5 +1,5 @@
 -- When a call is turned back: 01's causes under 5 to 9, in its order. Definitions only.
-use Rattle.std.specs.Prelude.{ℕ, ◌^◌, Bool, not, ◌&&◌, List, [], ◌∷◌, ◌++◌, length, ltb, leb, eqb, Float}
+use Rattle.std.specs.Prelude.{ℕ, ◌^◌, Bool, false, not, ◌&&◌, List, [], ◌∷◌, ◌++◌, length, ltb, leb, eqb, Float, None, Option, Some}
 use Rattle.std.specs.Float.{binary32}
 use Rattle.std.specs.Float.Ieee.{le, of_bits}
 use Rattle.program.specs.Bind.{program_ok}
@@ -10,9 +10,7 @@ use Rattle.players.specs.declared.Players.{Players}
 use Rattle.session.specs.Tests.{is_live, over_live, twice_live, stray_record, over_records, over_voice, over_held, region_outside, slots_in_order}
 use Rattle.session.specs.declared.Session.{Session}
 use Rattle.events.specs.declared.SampleVoice.{SampleVoice}
-use Rattle.block.specs.Inputs.{Lent}
-use Rattle.block.specs.declared.Connected.{Connected}
-use Rattle.causes.specs.declared.Lengths.{Lengths}
+use Rattle.block.specs.Inputs.{Signals, Lent}
 
 -- 5: a voice rate not within 8,000 to 192,000
 unfoldable pub rate_fits : Float → Bool
@@ -23,35 +21,29 @@ abbrev pub no_place : Session → Bool
 no_place s = leb 16 s.voices.count
 
 -- 7: a connected input shorter than the block
-abbrev pub is_short : Bool → ℕ → ℕ → Bool
-is_short connected n frames = connected && ltb n frames
+abbrev pub is_short : Option (List Float) → ℕ → Bool
+is_short None frames = false
+is_short (Some xs) frames = ltb (length xs) frames
 
-abbrev pub fit_tests : ℕ → Connected → Lengths → List Bool
-fit_tests n c x =
-    not (eqb n 0) ∷ leb n 128 ∷ leb n x.left ∷ leb n x.right ∷ not (is_short c.freq x.freq n) ∷ not (is_short c.gate x.gate n)
-    ∷ not (is_short c.vel x.vel n) ∷ not (is_short c.amp x.amp n) ∷ not (is_short c.seed x.seed n) ∷ not (is_short c.bend x.bend n)
-    ∷ not (is_short c.quality x.quality n) ∷ []
+abbrev pub fit_tests : ℕ → Signals → ℕ → ℕ → List Bool
+fit_tests n x left right =
+    not (eqb n 0) ∷ leb n 128 ∷ leb n left ∷ leb n right ∷ not (is_short x.freq n) ∷ not (is_short x.gate n) ∷ not (is_short x.vel n)
+    ∷ not (is_short x.amp n) ∷ not (is_short x.seed n) ∷ not (is_short x.bend n) ∷ not (is_short x.quality n) ∷ []
 
 -- 7: a block of 1 to 128 frames, and no lent part shorter than it
-unfoldable pub parts_fit : ℕ → Connected → Lengths → Bool
-parts_fit n c x = every (fit_tests n c x)
+unfoldable pub parts_fit : ℕ → Signals → ℕ → ℕ → Bool
+parts_fit n x left right = every (fit_tests n x left right)
 
-abbrev pub lengths_of : Lent → Lengths
-lengths_of l = record {
-  freq = length l.freq;
-  gate = length l.gate;
-  vel = length l.vel;
-  amp = length l.amp;
-  seed = length l.seed;
-  bend = length l.bend;
-  quality = length l.quality;
-  left = length l.left;
-  right = length l.right;
-}
+abbrev pub lent_fits : Lent → Bool
+lent_fits l = parts_fit l.time.frames l.inputs (length l.left) (length l.right)
 
 -- 8, more than 32 players
 abbrev pub over_players : Players → Bool
 over_players ps = ltb 32 ps.count
+
+-- 8: the session's live voices, and how many records there are
+abbrev pub live_tests : ℕ → Session → List Bool
+live_tests id s = is_live id s ∷ not (over_live s) ∷ not (twice_live s) ∷ not (over_records s) ∷ []
 
 -- 8: the session's live voices and how many records it has
 abbrev pub session_tests : ℕ → Session → List Bool

@@ -1,66 +1,55 @@
-// What a block asks of session and voice in two walks, one over the list and one over the players, since every walk copies what it
-// walks; and whether it is a block without events, in which the gate does not turn and no off time waits on the voice's records. Its
-// players sound from the first frame to the last, and the session is not touched unless one of them ends.
-ghost use Rattle.std.specs.Prelude.{true, not, ◌&&◌, ◌≡◌, eqb};
+// What a block asks of session and voice once they are not quiet; and whether it is a block without events, in which the gate does not turn
+// and no off time waits on the voice's records. Its players sound from the first frame to the last, and the session is not touched unless one
+// of them ends.
+ghost use Rattle.std.specs.Prelude.{not, ◌&&◌, ◌≡◌, is_some, cond, Some, None};
+ghost use Rattle.std.specs.Option.{option_copied};
 ghost use Rattle.block.specs.Next.{next_gate};
 ghost use Rattle.block.specs.Ready.{Covers};
 ghost use Rattle.causes.specs.Calm.{look_fits};
 ghost use Rattle.causes.specs.Others.{off_waits};
 
-use super::check::{in_time, over_players};
-use super::quiet::rest_fits;
-use super::tally::{Look, list_look, misfit};
+use super::check::over_players;
+use super::quiet::ground_fits;
+use super::tally::{off_waits, others_fit};
 use block::BlockTime;
 use block::inputs::next_gate;
 use events::SampleVoice;
 use player_checks::check::players_look;
-use program::bind::program_ok;
-use session::Session;
+use session::{Session, slots_in_order};
 
-// Whether 8 and 9 pass, as far as two walks show it, and whether an off time waits on the voice's records.
+// Where 8 and 9 pass: whether an off time waits on the voice's records.
+#[tactic(auto, unfolding(crate::specs::Calm::look_fits, crate::specs::Others::list_fits))]
 pub fn look(
-    s: Session,
-    v: SampleVoice,
+    s: &Session,
+    v: &SampleVoice,
     t: BlockTime,
     words: &[u32],
     samples: &[u32],
     frames: usize,
     table: usize,
-) -> Look
-    ensures { (result.fits ≡ look_fits t words.now samples.now frames table s v) × (result.fits ≡ true → result.waits ≡ off_waits v.voice s) }
+) -> Option<bool>
+    ensures { result ≡ cond (look_fits t words.now samples.now frames table s.now v.now) (Some (off_waits v.now.voice s.now)) None }
 {
-    if !rest_fits(s, v) {
-        return misfit();
+    if !ground_fits(s, v, t, words, samples, frames, table) {
+        return None;
     }
-    let ps = v.players;
-    if over_players(ps) {
-        return misfit();
+    if over_players(&v.players) {
+        return None;
     }
-    let program = v.program;
-    if !program_ok(program, words, samples, frames, table) {
-        return misfit();
+    let own = players_look(&v.players, v.program, samples)?;
+    if !others_fit(s, Some(v.program.regions), None) {
+        return None;
     }
-    if !in_time(t.offset, s.event_serial) {
-        return misfit();
+    if !slots_in_order(s, v.voice, own) {
+        return None;
     }
-    let own = players_look(ps, program, samples);
-    if !own.fits {
-        return misfit();
-    }
-    let slots = own.slots;
-    list_look(s, program.regions, v.voice, slots)
+    Some(off_waits(s, v.voice))
 }
 
-// Whether nothing happens but sound: the state fits, no off time waits, and the gate does not turn.
-pub fn is_calm(k: Look, prev: bool, on: bool, gate: &[f32], n: usize) -> bool
-    requires { Covers on gate.now n }
-    ensures { result ≡ (k.fits && (not k.waits && eqb (next_gate prev on gate.now 0 n) n)) }
+// Whether nothing happens but sound: no off time waits, and the gate does not turn.
+pub fn is_calm(waits: bool, prev: bool, gate: Option<&[f32]>, n: usize) -> bool
+    requires { Covers (option_copied gate) n }
+    ensures { result ≡ (not waits && not (is_some (next_gate prev (option_copied gate.entry) 0 n))) }
 {
-    if !k.fits {
-        return false;
-    }
-    if k.waits {
-        return false;
-    }
-    next_gate(prev, on, gate, 0, n) == n
+    !waits && next_gate(prev, gate, 0, n).is_none()
 }

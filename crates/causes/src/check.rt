@@ -1,40 +1,48 @@
-// 01's causes to turn a call back, each by itself: 5, 7, 8 and 9.
+// 01's causes to turn a call back, each by itself: 5, 7, 8 and 9. Each is a bool and not a `Result`, since the definitions list several
+// tests under one number and ask that every one holds.
 ghost use Rattle.std.specs.Prelude.{◌≡◌};
+ghost use Rattle.std.specs.List.{list_any};
+ghost use Rattle.std.specs.Option.{option_copied};
+ghost use Rattle.block.specs.Inputs.{signals_of};
 ghost use Rattle.program.specs.Valid.{every};
-ghost use Rattle.causes.specs.Tests.{rate_fits, is_short, parts_fit, over_players, session_tests, voice_tests, well_formed, program_fits, state_fits, in_time};
+ghost use Rattle.causes.specs.Tests.{rate_fits, is_short, parts_fit, over_players, live_tests, session_tests, voice_tests, well_formed, program_fits, state_fits, in_time};
 
-use super::Lengths;
 use super::tally::others_fit;
-use block::Connected;
+use block::inputs::Inputs;
 use events::SampleVoice;
 use player_checks::check::{players_fit, samples_fit};
 use players::{Players, slots_of};
 use program::bind::program_ok;
 use session::{
-    Session, is_live, over_held, over_live, over_records, over_voice, region_outside,
-    slots_in_order, stray_record, twice_live,
+    Session, is_live, over_held, over_live, over_records, region_outside, slots_in_order,
+    twice_live,
 };
 
 // 5: from 8,000 to 192,000.
+#[tactic(auto, unfolding(crate::specs::Tests::rate_fits))]
 pub fn rate_fits(rate: f32) -> bool
     ensures { result ≡ rate_fits rate }
 {
-    if 8000.0 <= rate {
-        return rate <= 192000.0;
-    }
-    false
+    8000.0 <= rate && rate <= 192000.0
 }
 
 // 7: a connected input shorter than the block.
-fn is_short(connected: bool, n: usize, frames: usize) -> bool
-    ensures { result ≡ is_short connected n frames }
+fn is_short(input: Option<&[f32]>, frames: usize) -> bool
+    ensures { result ≡ is_short (option_copied input.entry) frames }
 {
-    if connected { n < frames } else { false }
+    input.is_some_and(|xs| xs.len() < frames)
+}
+
+// 7: one of the connected inputs is shorter than the block.
+fn any_short(inputs: &[Option<&[f32]>], frames: usize) -> bool
+    ensures { result ≡ list_any (λ x. is_short (option_copied x) frames) inputs.entry.now }
+{
+    inputs.iter().any(|input| is_short(*input, frames))
 }
 
 // 7: a block of 1 to 128 frames, and no lent part shorter than it.
-pub fn parts_fit(frames: usize, c: Connected, x: Lengths) -> bool
-    ensures { result ≡ parts_fit frames c x }
+pub fn parts_fit(frames: usize, inputs: Inputs<'_>, left: usize, right: usize) -> bool
+    ensures { result ≡ parts_fit frames (signals_of inputs.entry) left right }
 {
     if frames == 0 {
         return false;
@@ -42,71 +50,45 @@ pub fn parts_fit(frames: usize, c: Connected, x: Lengths) -> bool
     if 128 < frames {
         return false;
     }
-    if x.left < frames {
+    if left < frames {
         return false;
     }
-    if x.right < frames {
+    if right < frames {
         return false;
     }
-    if is_short(c.freq, x.freq, frames) {
-        return false;
-    }
-    if is_short(c.gate, x.gate, frames) {
-        return false;
-    }
-    if is_short(c.vel, x.vel, frames) {
-        return false;
-    }
-    if is_short(c.amp, x.amp, frames) {
-        return false;
-    }
-    if is_short(c.seed, x.seed, frames) {
-        return false;
-    }
-    if is_short(c.bend, x.bend, frames) {
-        return false;
-    }
-    !is_short(c.quality, x.quality, frames)
+    let i = inputs;
+    !any_short(
+        &[i.freq, i.gate, i.vel, i.amp, i.seed, i.bend, i.quality],
+        frames,
+    )
 }
 
 // 8: more than 32 players.
-pub fn over_players(ps: Players) -> bool
-    ensures { result ≡ over_players ps }
+pub fn over_players(ps: &Players) -> bool
+    ensures { result ≡ over_players ps.now }
 {
     32 < ps.count
 }
 
-// 8: the session's live voices and how many records it has.
-fn session_fits(s: Session, id: u64) -> bool
-    ensures { result ≡ every (session_tests id s) }
+// 8: the session's live voices, and how many records there are.
+pub(super) fn live_fits(s: &Session, id: u64) -> bool
+    ensures { result ≡ every (live_tests id s.now) }
 {
-    if !is_live(s, id) {
-        return false;
-    }
-    if over_live(s) {
-        return false;
-    }
-    if twice_live(s) {
-        return false;
-    }
-    // both causes that the list shows in one walk; records of an id or a region that no call makes go the plain way
-    if others_fit(s, 0xffff_ffff, 0) {
-        return !over_records(s);
-    }
-    if stray_record(s) {
-        return false;
-    }
-    if over_records(s) {
-        return false;
-    }
-    !over_voice(s)
+    is_live(s, id) && !over_live(s) && !twice_live(s) && !over_records(s)
+}
+
+// 8: the session.
+fn session_fits(s: &Session, id: u64) -> bool
+    ensures { result ≡ every (session_tests id s.now) }
+{
+    live_fits(s, id) && others_fit(s, None, None)
 }
 
 // 8: the voice beside the session, and its players.
-fn voice_fits(s: Session, v: SampleVoice) -> bool
-    ensures { result ≡ every (voice_tests s v) }
+fn voice_fits(s: &Session, v: &SampleVoice) -> bool
+    ensures { result ≡ every (voice_tests s.now v.now) }
 {
-    if over_players(v.players) {
+    if over_players(&v.players) {
         return false;
     }
     if !rate_fits(v.sample_rate) {
@@ -115,59 +97,55 @@ fn voice_fits(s: Session, v: SampleVoice) -> bool
     if over_held(s) {
         return false;
     }
-    let slots = slots_of(v.players);
+    let slots = slots_of(&v.players);
     if !slots_in_order(s, v.voice, slots) {
         return false;
     }
     if region_outside(s, v.program.regions) {
         return false;
     }
-    players_fit(v.players, v.program)
+    players_fit(&v.players, v.program)
 }
 
 // 8, as far as voice and session alone show it.
-pub fn well_formed(s: Session, v: SampleVoice) -> bool
-    ensures { result ≡ well_formed s v }
+pub fn well_formed(s: &Session, v: &SampleVoice) -> bool
+    ensures { result ≡ well_formed s.now v.now }
 {
-    if !session_fits(s, v.voice) {
-        return false;
-    }
-    voice_fits(s, v)
+    session_fits(s, v.voice) && voice_fits(s, v)
 }
 
 // 8, what the lent program adds.
-fn program_fits(v: SampleVoice, words: &[u32], samples: &[u32], frames: usize, table: usize) -> bool
-    ensures { result ≡ program_fits v words.now samples.now frames table }
-{
-    if !program_ok(v.program, words, samples, frames, table) {
-        return false;
-    }
-    samples_fit(v.players, samples)
-}
-
-// 8 in full.
-pub fn state_fits(
-    s: Session,
-    v: SampleVoice,
+#[tactic(auto, unfolding(crate::specs::Tests::program_fits))]
+fn program_fits(
+    v: &SampleVoice,
     words: &[u32],
     samples: &[u32],
     frames: usize,
     table: usize,
 ) -> bool
-    ensures { result ≡ state_fits s v words.now samples.now frames table }
+    ensures { result ≡ program_fits v.now words.now samples.now frames table }
 {
-    if !well_formed(s, v) {
-        return false;
-    }
-    program_fits(v, words, samples, frames, table)
+    program_ok(v.program, words, samples, frames, table) && samples_fit(&v.players, samples)
+}
+
+// 8 in full. The four parts of the lent program go singly, as `program_ok` takes them and `samples_fit` takes one.
+pub fn state_fits(
+    s: &Session,
+    v: &SampleVoice,
+    words: &[u32],
+    samples: &[u32],
+    frames: usize,
+    table: usize,
+) -> bool
+    ensures { result ≡ state_fits s.now v.now words.now samples.now frames table }
+{
+    well_formed(s, v) && program_fits(v, words, samples, frames, table)
 }
 
 // 9: sample offset and event serial not above 2^63.
+#[tactic(auto, unfolding(crate::specs::Tests::in_time))]
 pub fn in_time(offset: u64, serial: u64) -> bool
     ensures { result ≡ in_time offset serial }
 {
-    if 0x8000_0000_0000_0000 < offset {
-        return false;
-    }
-    serial <= 0x8000_0000_0000_0000
+    offset <= 0x8000_0000_0000_0000 && serial <= 0x8000_0000_0000_0000
 }

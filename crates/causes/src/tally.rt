@@ -1,162 +1,64 @@
-// What a voice asks of the session's list, in one walk: the causes under 8 that the list shows, with a count for each live voice.
-ghost use Rattle.std.specs.Prelude.{true, false, ◌≡◌, ◌≤◌, length, take};
-ghost use Rattle.session.specs.Lists.{used_of};
-ghost use Rattle.session.specs.State.{slot_list};
-ghost use Rattle.causes.specs.Others.{place_in, IsPlace, amiss, others_fit, list_fits, off_waits};
+// What a voice asks of the session's list: the causes under 8 that the list shows, with a count for each live voice, and whether an off
+// time waits.
+ghost use Rattle.std.specs.Prelude.{◌≡◌};
+ghost use Rattle.causes.specs.Others.{IsPlace, found_in, amiss, others_fit, off_waits};
 
-use session::{PlayerRecord, Session, Slots, is_waiting};
+use session::{PlayerRecord, Session, used};
 
-// The places of an array in use: never more than it has.
-fn used(count: usize, size: usize) -> usize
-    ensures { result ≡ used_of size count }
+// The first place at which the id stands.
+fn place_of(ids: &[u64], id: u64) -> Option<usize>
+    ensures { result ≡ found_in id ids.now }
 {
-    if count < size { count } else { size }
+    ids.iter().position(|x| *x == id)
 }
 
-// The first of n places at which the id stands; n where it stands at none.
-fn place_of(ids: &[u64; 16], n: usize, id: u64) -> usize
-    requires { (n ≤ 16) × (length ids.now ≡ 16) }
-    ensures { result ≡ place_in id (take n ids.now) }
+// The same, where `last` is the place of some id, or none: a voice's records often stand together, and then need no search.
+fn place_after(ids: &[u64], last: Option<usize>, id: u64) -> Option<usize>
+    requires { IsPlace ids.now last }
+    ensures { (result ≡ found_in id ids.now) × IsPlace ids.now result }
 {
-    let mut i: usize = 0;
-    while i < n {
-        if ids[i] == id {
-            return i;
-        }
-        i += 1;
+    match last {
+        Some(k) if ids[k] == id => last,
+        _ => place_of(ids, id),
     }
-    i
 }
 
-// The same, where `last` is such a place of some id, or none: a voice's records often stand together, and then need no search.
-fn place_after(ids: &[u64; 16], n: usize, last: usize, id: u64) -> usize
-    requires { (n ≤ 16) × (length ids.now ≡ 16) × IsPlace (take n ids.now) n last }
-    ensures { (result ≡ place_in id (take n ids.now)) × IsPlace (take n ids.now) n result }
+// Whether the record's region is outside so many, where a number is given, or the record is this voice's, where one is.
+fn is_amiss(r: PlayerRecord, regions: Option<u32>, own: Option<u64>) -> bool
+    ensures { result ≡ amiss regions own r }
 {
-    if last < n {
-        if ids[last] == id {
-            return last;
-        }
-    }
-    place_of(ids, n, id)
+    regions.is_some_and(|n| n <= r.region) || own.is_some_and(|id| r.voice == id)
 }
 
-// Whether the record's region is outside so many, or the record is the voice's own.
-fn is_amiss(r: PlayerRecord, regions: u32, voice: u64) -> bool
-    ensures { result ≡ amiss regions voice r }
+// Every record is a live voice's, none of them has more than 32, and none is amiss: one walk, with a count for each live voice. The counts
+// stand apart from the ids, which are read where the session has them: an array of pairs would copy all sixteen for each block.
+pub(super) fn others_fit(s: &Session, regions: Option<u32>, own: Option<u64>) -> bool
+    ensures { result ≡ others_fit regions own s.now }
 {
-    if regions <= r.region {
-        return true;
-    }
-    r.voice == voice
-}
-
-// The same of a list that has records: one walk, with a count for each live voice.
-fn tally_fits(s: Session, regions: u32, voice: u64) -> bool
-    ensures { result ≡ others_fit regions voice s }
-{
-    let n = used(s.count, 512);
-    let v = s.voices;
-    let live = used(v.count, 16);
-    let ids = v.ids;
+    let ids = &s.voices.ids[..used::<16>(s.voices.count)];
     let mut counts = [0u32; 16];
-    let mut last = live;
-    let mut i: usize = 0;
-    while i < n {
-        let r = s.players[i];
-        if is_amiss(r, regions, voice) {
+    let mut last = None;
+    for r in &s.players[..used::<512>(s.count)] {
+        if is_amiss(*r, regions, own) {
             return false;
         }
-        let p = place_after(&ids, live, last, r.voice);
-        last = p;
-        if live <= p {
+        last = place_after(ids, last, r.voice);
+        let Some(p) = last else {
+            return false;
+        };
+        if 32 <= counts[p] {
             return false;
         }
-        let k = counts[p];
-        if 32 <= k {
-            return false;
-        }
-        counts[p] = k + 1;
-        i += 1;
+        counts[p] += 1;
     }
     true
 }
 
-// What a voice without players asks of the list, in one walk: every record another live voice's and of one of so many regions, and none
-// of them with more than 32.
-pub fn others_fit(s: Session, regions: u32, voice: u64) -> bool
-    ensures { result ≡ others_fit regions voice s }
+// Whether an off time waits on one of the voice's records.
+pub(super) fn off_waits(s: &Session, voice: u64) -> bool
+    ensures { result ≡ off_waits voice s.now }
 {
-    // nothing is copied for an empty list
-    if s.count == 0 {
-        return true;
-    }
-    tally_fits(s, regions, voice)
-}
-
-// What a look at the state found: whether it fits, and where it does, whether an off time waits on the voice's records.
-#[derive(Drop)]
-pub struct Look {
-    pub fits: bool,
-    pub waits: bool,
-}
-
-// It does not fit.
-pub fn misfit() -> Look
-    ensures { result ≡ record { fits = false; waits = false } }
-{
-    Look {
-        fits: false,
-        waits: false,
-    }
-}
-
-// What any voice asks of the list, in one walk: its own records are its players' slots in order. A record of the id 0, which no call makes,
-// is not told apart from a stray one.
-pub fn list_look(s: Session, regions: u32, voice: u64, own: Slots) -> Look
-    ensures { (result.fits ≡ list_fits regions voice (slot_list own) s) × (result.fits ≡ true → result.waits ≡ off_waits voice s) }
-{
-    let n = used(s.count, 512);
-    let v = s.voices;
-    let live = used(v.count, 16);
-    let ids = v.ids;
-    let m = used(own.count, 32);
-    let mut counts = [0u32; 16];
-    let mut last = live;
-    let mut i: usize = 0;
-    let mut j: usize = 0;
-    let mut waits = false;
-    while i < n {
-        let r = s.players[i];
-        if is_amiss(r, regions, 0) {
-            return misfit();
-        }
-        let p = place_after(&ids, live, last, r.voice);
-        last = p;
-        if live <= p {
-            return misfit();
-        }
-        let held = counts[p];
-        if 32 <= held {
-            return misfit();
-        }
-        counts[p] = held + 1;
-        if is_waiting(r, voice) {
-            waits = true;
-        }
-        i += 1;
-        if r.voice == voice {
-            if m <= j {
-                return misfit();
-            }
-            if own.slots[j] != r.slot {
-                return misfit();
-            }
-            j += 1;
-        }
-    }
-    Look {
-        fits: j == m,
-        waits,
-    }
+    s.players[..used::<512>(s.count)]
+        .iter()
+        .any(|r| r.is_waiting(voice))
 }

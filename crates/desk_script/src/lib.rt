@@ -2,6 +2,4 @@
 #![tactic(auto)]
 
 pub mod perform;
-mod play;
 mod setup;
-mod show;

@@ -45,8 +45,9 @@ pub struct EnvStep {
 }
 
 impl Env {
-    // The same envelope at another state, value and transition. The steps go by this and by a copy that they change: with `..self` in all
-    // of them and in `release` a frame took up to 1 % more instructions and 2 to 5 % more time (Hermite, two biquads).
+    // The same envelope at another state, value and transition. The steps go by this and by a copy that they change: with `..self`, and one
+    // function for the five that set the value, a Hermite frame through two biquads took 1.03 of the Rust's time in place of 0.95, where 0.91 is
+    // the most it has taken, and a linear one 0.83 in place of 0.78.
     fn at(self, s: EgState, v: f32, d: f32) -> Env
         ensures { result ≡ env_at s v d self }
     {
@@ -259,7 +260,7 @@ impl Env {
     }
 
     // A release that has begun goes on at the new rate too.
-    // A copy that is changed: with `..self` here and in `release`, a frame took 0.6 to 1.5 % more instructions.
+    // A copy that is changed, as in the steps: with `..self` in all of them frames took 6 to 8 % more time.
     #[tactic(auto, unfolding(crate::specs::Envelope::release_timed))]
     pub fn set_release_time(self, t: f32) -> Env
         ensures { result ≡ release_timed t self }
@@ -283,7 +284,8 @@ impl Env {
 }
 
 // This and the two below share the test of t alone: what each gives where it holds, its formula and, of one, the type are its own, so that
-// one function for them would take a value and a closure for a line each.
+// one function for them would take a value and a closure for a line each. Nor is the rate a type with these as methods: their names are
+// public and stay, so that each would stand twice.
 // The factor of an exponential decay or release of t seconds, at least 6 ms: 0 where there is none.
 #[tactic(auto, unfolding(crate::specs::Envelope::exp_rate))]
 pub fn exp_rate(t: f32, sr: f32) -> f32

@@ -1,7 +1,7 @@
 -- What starting regions changes and what it leaves, for the account of a whole run. Assumes nothing.
 use Rattle.std.proofs.Common.{◌≡◌, ℕ, ◌+◌, ◌%◌, ◌^◌, ◌<◌, ◌≤◌, Bool, true, false, ltb, leb, List, [], ◌∷◌, ◌++◌, length, refl, ap, ◌∙◌, arith, length-append, length-set, ltb-true, le-leb, leb-false, None, Option, Some, cond}
 use borrow.Author.Tests.{lt-leb}
-use Rattle.player.specs.Start.{started_player}
+use Rattle.player.specs.Start.{is_note_on, started_player}
 use Rattle.players.specs.Seats.{sounding}
 use Rattle.players.proofs.Seating.{sounding-seated}
 use Rattle.session.specs.Records.{entered}
@@ -101,7 +101,7 @@ module _ (k : Kit) (n : NoteState) (c : Cause) (v : SampleVoice) (i : ℕ) where
   unfolding player_of player_from started_player
   player-region = refl
 
-  pub player-on-note : (player_of k n c v i).on_note ≡ c.on_note
+  pub player-on-note : (player_of k n c v i).on_note ≡ is_note_on c.kind
   unfolding player_of player_from started_player
   player-on-note = refl
 

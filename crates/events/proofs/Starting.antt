@@ -1,5 +1,5 @@
 -- What the tests of a start tell. Assumes nothing.
-use Rattle.std.proofs.Common.{◌≡◌, ℕ, ◌≤◌, false, take, sym, ap, ◌∙◌, le_trans}
+use Rattle.std.proofs.Common.{◌≡◌, ℕ, ◌≤◌, take, sym, ap, ◌∙◌, le_trans}
 use lib.Ieee.{Float}
 use Rattle.session.specs.Lists.{used_of}
 use Rattle.session.specs.State.{serial_up}
@@ -12,6 +12,7 @@ use Rattle.note.proofs.Laws.{chosen-list, off-few}
 use Rattle.events.specs.declared.SampleVoice.{SampleVoice}
 use Rattle.events.specs.declared.Both.{Both}
 use Rattle.events.specs.declared.Cause.{Cause}
+use Rattle.player.specs.declared.start.Cause.TheVariants.{Release}
 use Rattle.events.specs.Voice.{Kit}
 use Rattle.events.specs.Start.{started_all, held_for, release_cause, releases_fired}
 
@@ -26,7 +27,7 @@ module _ (k : Kit) (m : ℕ) (n : NoteState) (at : ℕ) (s : Session) (v : Sampl
       → (ch : Chosen) → ch ≡ chosen_from (chosen_off k.words m n.note n.vel draw t)
       → (held : Float) → held ≡ held_for at n.on_time v.sample_rate
       → (r : Both)
-      → r ≡ started_all k n (record { serial = t.event_serial; on_note = false; at = at; held_secs = held }) (chosen_list ch) (record { session = t; voice = v })
+      → r ≡ started_all k n (record { serial = t.event_serial; at = at; kind = Release held }) (chosen_list ch) (record { session = t; voice = v })
       → r ≡ releases_fired k m n at (record { session = s; voice = v })
   unfolding releases_fired release_cause
   fired h t t-is draw draw-is ch ch-is held held-is r r-is =

@@ -1,13 +1,14 @@
 -- A region starts: its marks on the session's list, then, where its voice has room, its record and its player. Definitions only.
-use Rattle.std.specs.Prelude.{ℕ, ◌+◌, ◌-◌, ◌%◌, ◌^◌, false, List, map, pos, ◌==◌, nat_le, nat_lt, Float, None, Option, Some, cond, unwrap_or}
+use Rattle.std.specs.Prelude.{ℕ, ◌+◌, ◌-◌, ◌%◌, ◌^◌, List, map, pos, ◌==◌, nat_le, nat_lt, Float, None, Option, Some, cond, unwrap_or}
 use mathlib.Core.List.{foldl}
 use Rattle.std.specs.Float.{binary32}
 use Rattle.std.specs.Float.Ieee.{of_int}
 use Rattle.exact.specs.Random.{drawn}
 use Rattle.exact.specs.Single.{◌⊘◌}
-use Rattle.player.specs.Start.{started_player}
+use Rattle.player.specs.Start.{is_note_on, started_player}
 use Rattle.player.specs.declared.Player.{Player}
 use Rattle.player.specs.declared.start.Event.{Event}
+use Rattle.player.specs.declared.start.Cause.TheVariants.{Release}
 use Rattle.player.specs.declared.start.Note.{Note}
 use Rattle.players.specs.Seats.{seated}
 use Rattle.program.specs.Curve.{velcurve_at}
@@ -35,7 +36,7 @@ start_of x i voice n c = record {
   off_by = x.choke.off_by;
   note = n.note;
   vel = n.vel;
-  on_note = c.on_note;
+  on_note = is_note_on c.kind;
   serial = c.serial;
   at = c.at;
   note_polyphony = x.choke.note_polyphony;
@@ -54,7 +55,7 @@ abbrev pub note_in : NoteState → Note
 note_in n = record { note = n.note; vel = n.vel; note_f = n.note_f; seed = n.seed; interp = n.interp }
 
 abbrev pub event_in : ℕ → ℕ → Cause → Event
-event_in slot i c = record { slot = slot; region = i; serial = c.serial; on_note = c.on_note; held_secs = c.held_secs }
+event_in slot i c = record { slot = slot; region = i; serial = c.serial; cause = c.kind }
 
 -- what the region's velocity curve gives at the note's velocity
 unfoldable pub curve_for : List ℕ → Region → ℕ → ℕ → Option Float
@@ -110,7 +111,7 @@ unfoldable pub held_for : ℕ → ℕ → Float → Float
 held_for at on rate = of_int binary32 (pos (at - on)) ⊘ rate
 
 unfoldable pub release_cause : NoteState → ℕ → Float → Session → Cause
-release_cause n at rate s = record { serial = s.event_serial; on_note = false; at = at; held_secs = held_for at n.on_time rate }
+release_cause n at rate s = record { serial = s.event_serial; at = at; kind = Release (held_for at n.on_time rate) }
 
 -- Of m regions those chosen start. The event takes a serial, whether a region starts or not
 unfoldable pub releases_fired : Kit → ℕ → NoteState → ℕ → Both → Both

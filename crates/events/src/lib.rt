@@ -1,8 +1,10 @@
 // What a start does to the session and to a voice, and a note's release regions: the Rust's `start_region` and `dispatch_release`.
-// `words` and `samples` are the bound program's, of `n` regions.
 #![tactic(auto)]
 
 pub mod start;
+
+ghost use Rattle.std.specs.Prelude.{◌≤◌};
+ghost use Rattle.events.specs.Voice.{Bindable};
 
 use note::NoteState;
 use players::Players;
@@ -32,11 +34,27 @@ pub struct Both {
     pub voice: SampleVoice,
 }
 
+// The words of a bound program's regions and of its samples, how many regions they are, and what binding has found of them.
+#[derive(Clone, Copy)]
+pub struct Kit<'a> {
+    pub words: &'a [u32],
+    pub samples: &'a [u32],
+    pub regions: u32,
+    pub ghost bindable: { Bindable words.now },
+    pub ghost few: { regions ≤ 256 },
+}
+
 // What a start has of its event.
 #[derive(Clone, Copy)]
 pub struct Cause {
     pub serial: u64,
-    pub on_note: bool,
     pub at: u64,
-    pub held_secs: f32,
+    pub kind: player::start::Cause,
+}
+
+// What an event starts regions with.
+#[derive(Clone, Copy)]
+pub struct Stroke {
+    pub note: NoteState,
+    pub cause: Cause,
 }

@@ -261,7 +261,7 @@ unsigned nan = true
 unsigned (inf s) = not s
 unsigned (fin s m e) = not s
 
--- ---- what `part_bits` returns
+-- ---- what `normal_bits` returns
 finite-plus : (b : ℕ) → b < 9218868437227405312 → T (plus (of_bits binary64 b))
 finite-plus b h = go (b / 4503599627370496) refl
   where

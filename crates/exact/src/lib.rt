@@ -7,5 +7,6 @@ pub mod cast;
 pub mod format;
 pub mod integral;
 pub mod order;
+pub mod pair;
 pub mod random;
 pub mod root;

@@ -1,11 +1,11 @@
 -- The first n of a player's slots, lent to `chain` as a slice. Assumes nothing.
-use Rattle.std.proofs.Common.{◌≡◌, ℕ, zero, suc, ◌≤◌, ◌<◌, Bool, true, false, List, length, take, get_or, refl, ap, sym, ◌∙◌, ltb, min, arith, length-take}
+use Rattle.std.proofs.Common.{◌≡◌, ℕ, zero, suc, ◌≤◌, Bool, true, false, List, length, take, refl, ltb, arith, length-take}
 use Rattle.std.proofs.Math.Seq.{get_or-take}
 use Rattle.std.proofs.Math.ListN.{get_or-eq_default}
 use borrow.Author.Tests.{ltb-true, ltb-false}
 use Rattle.filter.specs.declared.FilterShape.{FilterShape}
 use Rattle.filter.specs.declared.FilterShape.TheVariants.{Off}
-use Rattle.filter.specs.Filter.{Paired, stage_count, shape_at, pair_ticked, chained, AllStages}
+use Rattle.filter.specs.Filter.{Paired, stage_count, shape_at, chained, AllStages}
 
 module _ (slots : List FilterShape) (n : ℕ) where
   through : (stereo : Bool) (k : ℕ) (s : Paired) → k ≤ n → chained (take n slots) stereo k s ≡ chained slots stereo k s

@@ -1,11 +1,14 @@
 // A player's filters, one frame at a time. The states of its six slots stand in one array: slot k has twelve places from
-// 12 k on, six for each channel. A biquad stage keeps z1 and z2 in two of them, so that three stages fill six; a one-pole
+// 12 k on, six for each channel. As [[[f32; 6]; 2]; 6] each write would be three in the clauses, `set s k (set (at s k) r (set ..))`, and
+// what a run of frames is proved to leave of a player would carry lists of lists of lists, to save the one bound `base + 5 < 72`. A biquad stage keeps z1 and z2 in two of them, so that three stages fill six; a one-pole
 // keeps its last input and output in the first two. A slot has one shape for its life and all states are 0 at its start,
 // so the two uses never meet.
 #![tactic(auto)]
 
 ghost use Rattle.std.specs.Prelude.{◌≡◌, ◌+◌, ◌*◌, ◌≤◌, ◌<◌, length};
 ghost use Rattle.filter.specs.Filter.{stage_at, stages, stage_count, ticked, pair_ticked, chained, AllStages};
+
+use exact::pair::Pair;
 
 // A biquad's coefficients, divided by a0.
 #[derive(Clone, Copy)]
@@ -26,13 +29,6 @@ pub enum FilterShape {
     Hp1 { p: f32 },
     // One biquad run `stages` times.
     Biquad { c: Coefficients, stages: u8 },
-}
-
-// Both channels of a frame.
-#[derive(Clone, Copy)]
-pub struct Pair {
-    pub l: f32,
-    pub r: f32,
 }
 
 // One biquad stage, whose z1 and z2 stand at at and at + 1.
@@ -94,18 +90,17 @@ pub fn tick(states: &mut [f32; 72], shape: FilterShape, base: usize, x: f32) -> 
 
 // A frame through slot k. The right channel of a mono frame passes by.
 #[tactic(auto, unfolding(crate::specs::Filter::pair_ticked))]
-pub fn tick_pair(
+pub fn tick_pair<const STEREO: bool>(
     states: &mut [f32; 72],
     shape: FilterShape,
     k: usize,
-    stereo: bool,
-    v: Pair,
-) -> Pair
+    v: Pair<f32>,
+) -> Pair<f32>
     requires { (stage_count shape ≤ 3) × (k < 6) }
-    ensures { (record { l = result.l; r = result.r; states = states.new }) ≡ pair_ticked shape k stereo (record { l = v.l; r = v.r; states = states.old }) }
+    ensures { (record { l = result.l; r = result.r; states = states.new }) ≡ pair_ticked shape k STEREO (record { l = v.l; r = v.r; states = states.old }) }
 {
     let l = tick(states, shape, 12 * k, v.l);
-    if stereo {
+    if STEREO {
         let r = tick(states, shape, 12 * k + 6, v.r);
         return Pair { l, r };
     }
@@ -114,13 +109,17 @@ pub fn tick_pair(
 
 // A frame through slots from the first on, in their order: a region's filters, then its equaliser bands.
 #[tactic(auto, unfolding(crate::specs::Filter::chained))]
-pub fn chain(states: &mut [f32; 72], slots: &[FilterShape], stereo: bool, v: Pair) -> Pair
+pub fn chain<const STEREO: bool>(
+    states: &mut [f32; 72],
+    slots: &[FilterShape],
+    v: Pair<f32>,
+) -> Pair<f32>
     requires { (length slots.now ≤ 6) × AllStages slots.now }
-    ensures { (record { l = result.l; r = result.r; states = states.new }) ≡ chained slots.now stereo (length slots.now) (record { l = v.l; r = v.r; states = states.old }) }
+    ensures { (record { l = result.l; r = result.r; states = states.new }) ≡ chained slots.now STEREO (length slots.now) (record { l = v.l; r = v.r; states = states.old }) }
 {
     let mut w = v;
     for (k, shape) in slots.iter().enumerate() {
-        w = tick_pair(states, *shape, k, stereo, w);
+        w = tick_pair::<STEREO>(states, *shape, k, w);
     }
     w
 }

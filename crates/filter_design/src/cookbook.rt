@@ -9,6 +9,15 @@ use filter::Coefficients;
 
 pub(crate) const TAU: f32 = 6.2831855;
 
+// What a design is asked for: its frequency and quality, a gain where it has one, and the rate.
+#[derive(Clone, Copy)]
+pub struct Design {
+    pub freq: f32,
+    pub q: f32,
+    pub gain_db: f32,
+    pub sample_rate: f32,
+}
+
 // What the designs share: cos w0, and alpha = sin w0 / (2 q).
 #[derive(Clone, Copy)]
 pub struct Angle {
@@ -44,15 +53,15 @@ pub struct Unscaled {
 }
 
 #[tactic(auto, unfolding(crate::specs::Cookbook::angle_of))]
-fn biquad_params(freq: f32, q: f32, sample_rate: f32) -> Angle
-    ensures { result ≡ angle_of freq q sample_rate }
+fn biquad_params(d: Design) -> Angle
+    ensures { result ≡ angle_of d.freq d.q d.sample_rate }
 {
-    let w0 = TAU * freq / sample_rate;
+    let w0 = TAU * d.freq / d.sample_rate;
     let sin_w0 = sin(w0);
     let cos_w0 = cos(w0);
     Angle {
         cos_w0,
-        alpha: sin_w0 / (2.0 * q),
+        alpha: sin_w0 / (2.0 * d.q),
     }
 }
 
@@ -72,45 +81,45 @@ fn normalize(u: Unscaled) -> Coefficients
 }
 
 #[tactic(auto, unfolding(crate::specs::Cookbook::low_pass))]
-pub fn biquad_lpf_coeffs(freq: f32, q: f32, sample_rate: f32) -> Coefficients
-    ensures { result ≡ normalized (low_pass (angle_of freq q sample_rate)) }
+pub fn biquad_lpf_coeffs(d: Design) -> Coefficients
+    ensures { result ≡ normalized (low_pass (angle_of d.freq d.q d.sample_rate)) }
 {
-    let w = biquad_params(freq, q, sample_rate);
+    let w = biquad_params(d);
     let b0 = (1.0 - w.cos_w0) / 2.0;
     w.over(b0, 1.0 - w.cos_w0, b0)
 }
 
 #[tactic(auto, unfolding(crate::specs::Cookbook::high_pass))]
-pub fn biquad_hpf_coeffs(freq: f32, q: f32, sample_rate: f32) -> Coefficients
-    ensures { result ≡ normalized (high_pass (angle_of freq q sample_rate)) }
+pub fn biquad_hpf_coeffs(d: Design) -> Coefficients
+    ensures { result ≡ normalized (high_pass (angle_of d.freq d.q d.sample_rate)) }
 {
-    let w = biquad_params(freq, q, sample_rate);
+    let w = biquad_params(d);
     let b0 = (1.0 + w.cos_w0) / 2.0;
     w.over(b0, -(1.0 + w.cos_w0), b0)
 }
 
 #[tactic(auto, unfolding(crate::specs::Cookbook::band_pass))]
-pub fn biquad_bpf_coeffs(freq: f32, q: f32, sample_rate: f32) -> Coefficients
-    ensures { result ≡ normalized (band_pass (angle_of freq q sample_rate)) }
+pub fn biquad_bpf_coeffs(d: Design) -> Coefficients
+    ensures { result ≡ normalized (band_pass (angle_of d.freq d.q d.sample_rate)) }
 {
-    let w = biquad_params(freq, q, sample_rate);
+    let w = biquad_params(d);
     w.over(w.alpha, 0.0, -w.alpha)
 }
 
 #[tactic(auto, unfolding(crate::specs::Cookbook::notch))]
-pub fn biquad_notch_coeffs(freq: f32, q: f32, sample_rate: f32) -> Coefficients
-    ensures { result ≡ normalized (notch (angle_of freq q sample_rate)) }
+pub fn biquad_notch_coeffs(d: Design) -> Coefficients
+    ensures { result ≡ normalized (notch (angle_of d.freq d.q d.sample_rate)) }
 {
-    let w = biquad_params(freq, q, sample_rate);
+    let w = biquad_params(d);
     w.over(1.0, -2.0 * w.cos_w0, 1.0)
 }
 
 #[tactic(auto, unfolding(crate::specs::Cookbook::peaking))]
-pub fn biquad_peaking_coeffs(freq: f32, q: f32, gain_db: f32, sample_rate: f32) -> Coefficients
-    ensures { result ≡ normalized (peaking (angle_of freq q sample_rate) (amplitude gain_db)) }
+pub fn biquad_peaking_coeffs(d: Design) -> Coefficients
+    ensures { result ≡ normalized (peaking (angle_of d.freq d.q d.sample_rate) (amplitude d.gain_db)) }
 {
-    let w = biquad_params(freq, q, sample_rate);
-    let a = pow10(gain_db / 40.0);
+    let w = biquad_params(d);
+    let a = pow10(d.gain_db / 40.0);
     normalize(Unscaled {
         b0: 1.0 + w.alpha * a,
         b1: -2.0 * w.cos_w0,
@@ -123,11 +132,11 @@ pub fn biquad_peaking_coeffs(freq: f32, q: f32, gain_db: f32, sample_rate: f32) 
 
 // The two shelves stay apart, term by term as the cookbook prints them: one for both would take six signs.
 #[tactic(auto, unfolding(crate::specs::Cookbook::low_shelf))]
-pub fn biquad_low_shelf_coeffs(freq: f32, q: f32, gain_db: f32, sample_rate: f32) -> Coefficients
-    ensures { result ≡ normalized (low_shelf (angle_of freq q sample_rate) (amplitude gain_db)) }
+pub fn biquad_low_shelf_coeffs(d: Design) -> Coefficients
+    ensures { result ≡ normalized (low_shelf (angle_of d.freq d.q d.sample_rate) (amplitude d.gain_db)) }
 {
-    let w = biquad_params(freq, q, sample_rate);
-    let a = pow10(gain_db / 40.0);
+    let w = biquad_params(d);
+    let a = pow10(d.gain_db / 40.0);
     let two_sqrt_a_alpha = 2.0 * sqrt_f32(a) * w.alpha;
     normalize(Unscaled {
         b0: a * ((a + 1.0) - (a - 1.0) * w.cos_w0 + two_sqrt_a_alpha),
@@ -140,11 +149,11 @@ pub fn biquad_low_shelf_coeffs(freq: f32, q: f32, gain_db: f32, sample_rate: f32
 }
 
 #[tactic(auto, unfolding(crate::specs::Cookbook::high_shelf))]
-pub fn biquad_high_shelf_coeffs(freq: f32, q: f32, gain_db: f32, sample_rate: f32) -> Coefficients
-    ensures { result ≡ normalized (high_shelf (angle_of freq q sample_rate) (amplitude gain_db)) }
+pub fn biquad_high_shelf_coeffs(d: Design) -> Coefficients
+    ensures { result ≡ normalized (high_shelf (angle_of d.freq d.q d.sample_rate) (amplitude d.gain_db)) }
 {
-    let w = biquad_params(freq, q, sample_rate);
-    let a = pow10(gain_db / 40.0);
+    let w = biquad_params(d);
+    let a = pow10(d.gain_db / 40.0);
     let two_sqrt_a_alpha = 2.0 * sqrt_f32(a) * w.alpha;
     normalize(Unscaled {
         b0: a * ((a + 1.0) + (a - 1.0) * w.cos_w0 + two_sqrt_a_alpha),

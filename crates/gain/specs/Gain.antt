@@ -1,12 +1,14 @@
 -- How loud a region plays and where: SFZ's `amp_veltrack`, `xfin_*vel` and `xfout_*vel`, `pan` and `width`, as sfizz has them, in single precision. Each operation is
 -- rounded on its own, in the order written. Definitions only.
-use Rattle.std.specs.Prelude.{ℕ, Bool, true, false, ◌&&◌, cond, Float, None, Option, Some}
+use Rattle.std.specs.Prelude.{ℕ, ◌&&◌, cond, Float, None, Option, Some}
 use Rattle.std.specs.Float.{binary32}
 use Rattle.std.specs.Float.Ieee.{lt, of_bits}
 use Rattle.exact.specs.Order.{magnitude, clamped}
 use Rattle.exact.specs.Root.{square_root}
 use Rattle.elementary.specs.Functions.{exp2_of, sin_of, cos_of}
 use Rattle.program.specs.declared.region.VelCrossfade.{VelCrossfade}
+use Rattle.program.specs.declared.region.XfCurve.{XfCurve}
+use Rattle.program.specs.declared.region.XfCurve.TheVariants.{Gain, Power}
 use Rattle.exact.specs.Single.{◌⊕◌, ◌⊖◌, ◌⊗◌, ◌⊘◌, single, f0, f0_5, f1, f100, f127, f1200}
 use Rattle.gain.specs.declared.Matrix.{Matrix}
 
@@ -46,22 +48,23 @@ abbrev pub fade_position : Float → Float → Float → Float
 fade_position lo hi v = (v ⊖ lo) ⊘ fade_length lo hi
 
 -- `xf_velcurve`: the position for `gain`, its square root for `power`
-abbrev pub fade_shape : Bool → Float → Float
-fade_shape gain x = cond gain x (square_root binary32 x)
+abbrev pub fade_shape : XfCurve → Float → Float
+fade_shape Gain x = x
+fade_shape Power x = square_root binary32 x
 
 -- `xfin_lovel` and `xfin_hivel`: silent below the first, faded in between them, and as it is from the second on
 unfoldable pub faded_in : VelCrossfade → Float → Float → Float
 faded_in x v g =
     cond (lt v x.in_lo) f0
-    (cond (lt f0 (fade_length x.in_lo x.in_hi) && lt v x.in_hi) (g ⊗ fade_shape x.gain_curve (fade_position x.in_lo x.in_hi v)) g)
+    (cond (lt f0 (fade_length x.in_lo x.in_hi) && lt v x.in_hi) (g ⊗ fade_shape x.curve (fade_position x.in_lo x.in_hi v)) g)
 
 -- `xfout_lovel` and `xfout_hivel`: as it is up to the first, then faded out, and silent where the fade has ended
-abbrev pub fade_rest : Bool → Float → Float
-fade_rest gain x = cond (lt f1 x) f0 (fade_shape gain (f1 ⊖ x))
+abbrev pub fade_rest : XfCurve → Float → Float
+fade_rest curve x = cond (lt f1 x) f0 (fade_shape curve (f1 ⊖ x))
 
 unfoldable pub faded_out : VelCrossfade → Float → Float → Float
 faded_out x v g =
-    cond (lt f0 (fade_length x.out_lo x.out_hi) && lt x.out_lo v) (g ⊗ fade_rest x.gain_curve (fade_position x.out_lo x.out_hi v)) g
+    cond (lt f0 (fade_length x.out_lo x.out_hi) && lt x.out_lo v) (g ⊗ fade_rest x.curve (fade_position x.out_lo x.out_hi v)) g
 
 unfoldable pub crossfade_gain : Option VelCrossfade → ℕ → Float
 unfolding faded_in faded_out
@@ -96,9 +99,9 @@ abbrev pub right_gain : Float → Float
 right_gain x = sin_of (quarter_turn x)
 
 -- `pan` places a mono sample. Of a stereo sample it scales the two sides, and then `width` sets how much of each stays and how much crosses over.
-unfoldable pub pan_matrix : Float → Float → Bool → Matrix
-pan_matrix pan width false = record { ll = left_gain pan ⊗ mono_pan_gain; rl = f0; lr = right_gain pan ⊗ mono_pan_gain; rr = f0 }
-pan_matrix pan width true =
+unfoldable pub pan_matrix : Float → Option Float → Matrix
+pan_matrix pan None = record { ll = left_gain pan ⊗ mono_pan_gain; rl = f0; lr = right_gain pan ⊗ mono_pan_gain; rr = f0 }
+pan_matrix pan (Some width) =
     let kept = stereo_pan_gain ⊗ over_root_two ⊗ right_gain width in
     let crossed = stereo_pan_gain ⊗ over_root_two ⊗ left_gain width in
     record { ll = kept ⊗ left_gain pan; rl = crossed ⊗ right_gain pan; lr = crossed ⊗ left_gain pan; rr = kept ⊗ right_gain pan }

@@ -9,7 +9,7 @@ use elementary::trig::{cos, sin};
 use exact::cast::u32_to_f32;
 use exact::order::{abs_f32, clamp_f32};
 use exact::root::sqrt_f32;
-use program::region::VelCrossfade;
+use program::region::{VelCrossfade, XfCurve};
 
 const FRAC_PI_2: f32 = 1.5707964;
 
@@ -21,7 +21,7 @@ const MONO_PAN_GAIN: f32 = 1.4125375;
 const STEREO_PAN_GAIN: f32 = 1.9952623;
 
 // out_l = ll l + rl r, out_r = lr l + rr r.
-#[derive(Drop)]
+#[derive(Clone, Copy)]
 pub struct Matrix {
     pub ll: f32,
     pub rl: f32,
@@ -58,13 +58,17 @@ pub fn velocity_gain(amp_veltrack: f32, curve: Option<f32>, vel: u8) -> f32
     if vt < 0.0 { g } else { 1.0 - g }
 }
 
-// A fade's gain at its position, by the region's curve: `gain` or `power`.
-fn fade_shape(gain_curve: bool, pos: f32) -> f32
-    ensures { result ≡ fade_shape gain_curve pos }
+// A fade's gain at its position, by the region's curve.
+fn fade_shape(curve: XfCurve, pos: f32) -> f32
+    ensures { result ≡ fade_shape curve pos }
 {
-    if gain_curve { pos } else { sqrt_f32(pos) }
+    match curve {
+        XfCurve::Gain => pos,
+        XfCurve::Power => sqrt_f32(pos),
+    }
 }
 
+// The two fades stay two: below `in_lo` one is silent, and past `out_hi` the other keeps the sign of g in g * 0.0.
 fn fade_in(xf: VelCrossfade, v: f32, g: f32) -> f32
     ensures { result ≡ faded_in xf v g }
 {
@@ -73,7 +77,7 @@ fn fade_in(xf: VelCrossfade, v: f32, g: f32) -> f32
     }
     let len = xf.in_hi - xf.in_lo - 1.0;
     if len > 0.0 && v < xf.in_hi {
-        return g * fade_shape(xf.gain_curve, (v - xf.in_lo) / len);
+        return g * fade_shape(xf.curve, (v - xf.in_lo) / len);
     }
     g
 }
@@ -87,7 +91,7 @@ fn fade_out(xf: VelCrossfade, v: f32, g: f32) -> f32
         if pos > 1.0 {
             return g * 0.0;
         }
-        return g * fade_shape(xf.gain_curve, 1.0 - pos);
+        return g * fade_shape(xf.curve, 1.0 - pos);
     }
     g
 }
@@ -112,29 +116,31 @@ fn quarter_turn(x: f32) -> f32
     clamp_f32((x / 100.0 + 1.0) * 0.5, 0.0, 1.0) * FRAC_PI_2
 }
 
-// The output matrix of pan and width, in percent. The width of a mono sample is not asked.
-pub fn pan_matrix(pan: f32, width: f32, stereo: bool) -> Matrix
-    ensures { result ≡ pan_matrix pan width stereo }
+// The output matrix of pan and width, in percent. A mono sample has no width.
+pub fn pan_matrix(pan: f32, width: Option<f32>) -> Matrix
+    ensures { result ≡ pan_matrix pan width }
 {
     let p = quarter_turn(pan);
     let pl = cos(p);
     let pr = sin(p);
-    if stereo {
-        let w = quarter_turn(width);
-        let c1 = cos(w);
-        let c2 = sin(w);
-        let k = STEREO_PAN_GAIN * FRAC_1_SQRT_2;
-        return Matrix {
-            ll: k * c2 * pl,
-            rl: k * c1 * pr,
-            lr: k * c1 * pl,
-            rr: k * c2 * pr,
-        };
-    }
-    Matrix {
-        ll: pl * MONO_PAN_GAIN,
-        rl: 0.0,
-        lr: pr * MONO_PAN_GAIN,
-        rr: 0.0,
+    match width {
+        None => Matrix {
+            ll: pl * MONO_PAN_GAIN,
+            rl: 0.0,
+            lr: pr * MONO_PAN_GAIN,
+            rr: 0.0,
+        },
+        Some(w) => {
+            let turn = quarter_turn(w);
+            let c1 = cos(turn);
+            let c2 = sin(turn);
+            let k = STEREO_PAN_GAIN * FRAC_1_SQRT_2;
+            Matrix {
+                ll: k * c2 * pl,
+                rl: k * c1 * pr,
+                lr: k * c1 * pl,
+                rr: k * c2 * pr,
+            }
+        }
     }
 }

@@ -8,7 +8,7 @@ use mathlib.Core.Bool.{Bool, true, false, not}
 use mathlib.Core.List.{List}
 use native.Mathlib.Omega.{arith}
 use lib.ListN.{length}
-use Rattle.players.specs.Gate.{offed_slot, released_all}
+use Rattle.players.specs.Gate.{offed_slot, released_all, ignored, fires}
 use Rattle.players.specs.Seats.{sounding, is_over, reaped}
 use Rattle.players.specs.declared.Offed.{Offed}
 use Rattle.players.specs.declared.Released.{Released}
@@ -152,12 +152,12 @@ module _ (k : Kit) (m : ℕ) where
 
   pub off-stays : (slot at : ℕ) (b : Both) → Stays b (applied_off k m slot at b)
   unfolding applied_off
-  off-stays slot at b = by-case (offed_slot slot b.voice.players) (offed_slot slot b.voice.players).ignored where
-    by-case : (o : Offed) (t : Bool) → Stays b (cond t b (choke_fires k m at o.fires (reaped_both (both b.session (with_players o.players b.voice)))))
+  off-stays slot at b = by-case (offed_slot slot b.voice.players) (ignored (offed_slot slot b.voice.players).mark) where
+    by-case : (o : Offed) (t : Bool) → Stays b (cond t b (choke_fires k m at (fires o.mark) (reaped_both (both b.session (with_players o.players b.voice)))))
     by-case o true = stays_same b
     by-case o false =
         let c = both b.session (with_players o.players b.voice) in
-        let x = stays_then (reap-stays c) (choke-stays at o.fires (reaped_both c)) in
+        let x = stays_then (reap-stays c) (choke-stays at (fires o.mark) (reaped_both c)) in
         record {
           seq = x.seq;
           voices = x.voices;

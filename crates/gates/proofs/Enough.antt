@@ -10,7 +10,7 @@ use native.Mathlib.Omega.{arith}
 use lib.ListN.{length, length-append, length-map}
 use lib.Dec.{ltb, leb}
 use borrow.Author.Tests.{leb-false, ltb-true}
-use Rattle.players.specs.Gate.{offed_slot}
+use Rattle.players.specs.Gate.{offed_slot, ignored, fires}
 use Rattle.players.specs.Seats.{sounding, is_over, reaped}
 use Rattle.players.specs.declared.Offed.{Offed}
 use Rattle.session.proofs.Laws.{along-length, first-along, marks-along, slots-marks}
@@ -236,13 +236,13 @@ module _ (v : ℕ) where
   falls-applied : (k : Kit) (m slot at : ℕ) (b : Both) → Falls v b (applied_off k m slot at b)
   unfolding applied_off
   falls-applied k m slot at b = by-case (offed_slot slot b.voice.players) where
-    by-case : (o : Offed) → Falls v b (cond o.ignored b (choke_fires k m at o.fires (reaped_both (both b.session (with_players o.players b.voice)))))
-    by-case o = pick-case o.ignored where
-      pick-case : (t : Bool) → Falls v b (cond t b (choke_fires k m at o.fires (reaped_both (both b.session (with_players o.players b.voice)))))
+    by-case : (o : Offed) → Falls v b (cond (ignored o.mark) b (choke_fires k m at (fires o.mark) (reaped_both (both b.session (with_players o.players b.voice)))))
+    by-case o = pick-case (ignored o.mark) where
+      pick-case : (t : Bool) → Falls v b (cond t b (choke_fires k m at (fires o.mark) (reaped_both (both b.session (with_players o.players b.voice)))))
       pick-case true = record { less = omega arith; id = refl }
       pick-case false =
           let c = both b.session (with_players o.players b.voice) in
-          let x = falls-reap c in let y = falls-choke k m at o.fires (reaped_both c) in
+          let x = falls-reap c in let y = falls-choke k m at (fires o.mark) (reaped_both c) in
           let p = x.less in let q = y.less in
           record { less = omega arith; id = y.id ∙ x.id }
 

@@ -2,7 +2,7 @@
 use Rattle.std.specs.List.{list_any}
 use Rattle.session.specs.declared.Off.{Off}
 use Rattle.std.specs.Prelude.{ℕ, zero, suc, Bool, true, false, not, ◌&&◌, None, Option, Some, cond}
-use Rattle.players.specs.Gate.{offed_slot}
+use Rattle.players.specs.Gate.{ignored, fires, offed_slot}
 use Rattle.players.specs.Seats.{sounding, is_over, reaped}
 use Rattle.session.specs.Offs.{took_first}
 use Rattle.session.specs.Rules.{without_slots}
@@ -39,12 +39,12 @@ fired_note None = None
 fired_note (Some n) = Some (with_choke_released n)
 
 abbrev pub may_fire : Bool → SampleVoice → Bool
-may_fire fires v = fires && (v.gate_held && unfired v.note)
+may_fire due v = due && (v.gate_held && unfired v.note)
 
 -- the choke of a note-on's player under a held gate fires the note's release regions, once for each note
 unfoldable pub choke_fires : Kit → ℕ → ℕ → Bool → Both → Both
-choke_fires k m at fires b =
-    cond (may_fire fires b.voice)
+choke_fires k m at due b =
+    cond (may_fire due b.voice)
     (dispatched_release k m at (record { session = b.session; voice = with_note (fired_note b.voice.note) b.voice }))
     b
 
@@ -52,7 +52,7 @@ choke_fires k m at fires b =
 unfoldable pub applied_off : Kit → ℕ → ℕ → ℕ → Both → Both
 applied_off k m slot at b =
     let o = offed_slot slot b.voice.players in
-    cond o.ignored b (choke_fires k m at o.fires (reaped_both (record { session = b.session; voice = with_players o.players b.voice })))
+    cond (ignored o.mark) b (choke_fires k m at (fires o.mark) (reaped_both (record { session = b.session; voice = with_players o.players b.voice })))
 
 -- the off time taken first acts
 abbrev pub acts_on : Kit → ℕ → Option Off → Both → Both

@@ -1,16 +1,16 @@
 // A rising gate and a falling one: the Rust's `note_on` and `note_off`.
-ghost use Rattle.std.specs.Prelude.{◌≡◌, ◌≤◌};
+ghost use Rattle.std.specs.Prelude.{◌≡◌};
 ghost use Rattle.players.specs.Seats.{PlayersOk};
 ghost use Rattle.session.specs.State.{with_seq};
 ghost use Rattle.note.specs.Choice.{chosen_on};
-ghost use Rattle.events.specs.Voice.{Bindable, struck, ungated};
+ghost use Rattle.events.specs.Voice.{struck, ungated};
 ghost use Rattle.gates.specs.Gate.{risen, attack_cause, hit_at, note_started, noted_on, let_go_both, noted_off};
 
 use super::off::{own_offs, reap, with_players};
 use events::start::{dispatch_release, start_all};
-use events::{Both, Cause, SampleVoice};
+use events::{Both, Cause, Kit, SampleVoice, Stroke};
 use exact::random::rand01;
-use note::choice::{ChosenOn, choose_on};
+use note::choice::{ChosenOn, Query};
 use note::{NoteState, Strike, note_state};
 use players::gate::release_all;
 use session::{Sequences, Session, lower_held, next_serial, raise_held};
@@ -44,11 +44,17 @@ fn strike(v: SampleVoice, ns: NoteState) -> SampleVoice
 }
 
 // The regions that the note starts.
-fn choose(s: Session, words: &[u32], n: u32, ns: NoteState) -> ChosenOn
-    ensures { result ≡ chosen_on (hit_at words.now ns s) n ns.note s.seq }
+fn choose(s: Session, k: Kit<'_>, ns: NoteState) -> ChosenOn
+    ensures { result ≡ chosen_on (hit_at k.entry.words.now ns s) k.entry.regions ns.note s.seq }
 {
-    let draw = rand01(ns.seed, s.event_serial, 0);
-    choose_on(s.seq, words, n, ns.note, ns.vel, s.held, draw)
+    let query = Query {
+        words: k.words,
+        regions: k.regions,
+        key: ns.note,
+        vel: ns.vel,
+        draw: rand01(ns.seed, s.event_serial, 0),
+    };
+    query.choose_on(s.seq, s.held)
 }
 
 fn attack_cause(s: Session, at: u64) -> Cause
@@ -56,48 +62,33 @@ fn attack_cause(s: Session, at: u64) -> Cause
 {
     Cause {
         serial: s.event_serial,
-        on_note: true,
         at,
-        held_secs: 0.0,
+        kind: player::start::Cause::NoteOn,
     }
 }
 
 // The note's regions are chosen, and then start in turn.
-fn start_note(
-    s: Session,
-    v: SampleVoice,
-    words: &[u32],
-    samples: &[u32],
-    n: u32,
-    ns: NoteState,
-    at: u64,
-) -> Both
-    requires { PlayersOk v.players × Bindable words.now × (n ≤ 256) }
-    ensures { (result ≡ note_started (record { words = words.entry.now; samples = samples.now }) n ns at (record { session = s; voice = v })) × PlayersOk result.voice.players }
+fn start_note(b: Both, k: Kit<'_>, ns: NoteState, at: u64) -> Both
+    requires { PlayersOk b.voice.players }
+    ensures { (result ≡ note_started (record { words = k.entry.words.now; samples = k.entry.samples.now }) k.entry.regions ns at b) × PlayersOk result.voice.players }
 {
-    let h = rise(s);
-    let c = choose(h, words, n, ns);
-    let t = with_seq(h, c.seq);
-    let w = strike(v, ns);
-    start_all(t, w, words, samples, c.chosen, ns, attack_cause(h, at))
+    let h = rise(b.session);
+    let c = choose(h, k, ns);
+    let struck = Both {
+        session: with_seq(h, c.seq),
+        voice: strike(b.voice, ns),
+    };
+    let cause = attack_cause(h, at);
+    start_all(struck, k, c.chosen, Stroke { note: ns, cause })
 }
 
 // The note of a rising gate, and then every off time on the voice's own records.
 #[tactic(auto, unfolding(crate::specs::Gate::noted_on))]
-pub fn note_on(
-    s: Session,
-    v: SampleVoice,
-    words: &[u32],
-    samples: &[u32],
-    n: u32,
-    k: Strike,
-) -> Both
-    requires { PlayersOk v.players × Bindable words.now × (n ≤ 256) }
-    ensures { (result ≡ noted_on (record { words = words.entry.now; samples = samples.now }) n k (record { session = s; voice = v })) × PlayersOk result.voice.players }
+pub fn note_on(b: Both, k: Kit<'_>, x: Strike) -> Both
+    requires { PlayersOk b.voice.players }
+    ensures { (result ≡ noted_on (record { words = k.entry.words.now; samples = k.entry.samples.now }) k.entry.regions x b) × PlayersOk result.voice.players }
 {
-    let ns = note_state(k);
-    let b = start_note(s, v, words, samples, n, ns, k.at);
-    own_offs(b.session, b.voice, words, samples, n)
+    own_offs(start_note(b, k, note_state(x), x.at), k)
 }
 
 // ---- a falling gate
@@ -113,33 +104,33 @@ fn ungate(v: SampleVoice) -> SampleVoice
 
 // The players are let go; those ended in their delay leave at once.
 #[tactic(auto, unfolding(crate::specs::Gate::let_go_both))]
-fn let_go(s: Session, v: SampleVoice) -> Both
-    requires { PlayersOk v.players }
-    ensures { (result ≡ let_go_both (record { session = s; voice = v })) × PlayersOk result.voice.players }
+fn let_go(b: Both) -> Both
+    requires { PlayersOk b.voice.players }
+    ensures { (result ≡ let_go_both b) × PlayersOk result.voice.players }
 {
-    let r = release_all(v.players);
-    let w = with_players(v, r.players);
+    let r = release_all(b.voice.players);
+    let released = Both {
+        voice: with_players(b.voice, r.players),
+        ..b
+    };
     if r.killed {
-        return reap(s, w);
+        return reap(released);
     }
-    Both {
-        session: s,
-        voice: w,
-    }
+    released
 }
 
 // A falling gate, where it was held.
 #[tactic(auto, unfolding(crate::specs::Gate::noted_off, crate::specs::Gate::let_go_note))]
-pub fn note_off(s: Session, v: SampleVoice, words: &[u32], samples: &[u32], n: u32, at: u64) -> Both
-    requires { PlayersOk v.players × Bindable words.now × (n ≤ 256) }
-    ensures { (result ≡ noted_off (record { words = words.entry.now; samples = samples.now }) n at (record { session = s; voice = v })) × PlayersOk result.voice.players }
+pub fn note_off(b: Both, k: Kit<'_>, at: u64) -> Both
+    requires { PlayersOk b.voice.players }
+    ensures { (result ≡ noted_off (record { words = k.entry.words.now; samples = k.entry.samples.now }) k.entry.regions at b) × PlayersOk result.voice.players }
 {
-    if !v.gate_held {
-        return Both {
-            session: s,
-            voice: v,
-        };
+    if !b.voice.gate_held {
+        return b;
     }
-    let b = let_go(lower_held(s), ungate(v));
-    dispatch_release(b.session, b.voice, words, samples, n, at)
+    let lowered = Both {
+        session: lower_held(b.session),
+        voice: ungate(b.voice),
+    };
+    dispatch_release(let_go(lowered), k, at)
 }

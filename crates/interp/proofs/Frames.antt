@@ -1,6 +1,8 @@
 -- A frame of a sample, inside it and outside. Assumes nothing.
-use Rattle.std.proofs.Common.{◌≡◌, ℕ, zero, suc, ◌+◌, ◌-◌, ◌*◌, ◌%◌, ◌^◌, ◌<◌, ◌≤◌, Bool, true, false, not, T, leb, List, [], ◌∷◌, length, get_or, sym, refl, subst, arith, leb→le, le-leb}
-use borrow.Author.Tests.{lt-leb}
+use Rattle.std.proofs.Common.{◌≡◌, ℕ, zero, suc, ◌+◌, ◌-◌, ◌*◌, ◌%◌, ◌^◌, ◌<◌, ◌≤◌, Bool, true, false, not, T, leb, ltb, None, Option, Some, List, [], ◌∷◌, length, get_or, sym, refl, ◌∙◌, subst, arith, leb→le, le-leb}
+use borrow.Author.Tests.{lt-leb, ltb-true, ltb-false}
+use denote.Bor.{Bor}
+use Rattle.std.specs.Option.{is_some, unwrap_or, option_copied, IfSome}
 use lib.Dec.{nleb→lt}
 use lib.ListN.{get_or-eq_default}
 use lib.Ieee.{Float}
@@ -43,3 +45,9 @@ module _ (frames : List Float) (n : ℕ) where
       go : (b : Bool) → (T b → 42 ≤ n) → (T (not b) → n < 42) → f0 ≡ frame_at frames n
       go true f g = let k : 42 ≤ n = f tt in behind k (omega arith)
       go false f g = before (g tt)
+
+  -- by what a slice gives for that place
+  pub got : (r : Option (Bor Float)) → n < 2 ^ 64 → length frames * 4 < 2 ^ 63 → is_some r ≡ ltb ((n + 18446744073709551574) % 18446744073709551616) (length frames)
+      → IfSome r (λ x. x.now ≡ get_or frames ((n + 18446744073709551574) % 18446744073709551616) x.now) → unwrap_or (option_copied r) f0 ≡ frame_at frames n
+  got None a b e h = none-wrapped _ (omega arith) (omega arith) (ltb-false _ _ (sym e))
+  got (Some x) a b e h = h ∙ at-wrapped _ x.now (omega arith) (ltb-true _ _ (sym e)) b

@@ -1,12 +1,11 @@
 -- The Hermite weights where the order of the distances tells their signs. Assumes nothing.
-use Rattle.std.proofs.Common.{◌≡◌, ℕ, ◌+◌, ◌*◌, ◌<◌, Bool, true, false, not, ◌&&◌, ltb, ℤ, pos, sym, refl, ◌∙◌, true≢false, mul-pos, arith, lit<, ltb-false}
+use Rattle.std.proofs.Common.{◌≡◌, ℕ, ◌+◌, ◌*◌, ◌<◌, Bool, true, false, not, ◌&&◌, ltb, [], ◌∷◌, ℤ, pos, sym, refl, ◌∙◌, true≢false, mul-pos, arith, lit<, ltb-false}
 use lib.Ieee.{Float, nan, inf, fin, lt, neg, of_bits, up, down}
 use lib.Ieee.Fits.{down_pos}
 use borrow.Author.Tests.{not-true}
 use Rattle.exact.specs.Single.{◌⊖◌, f0, f1, f2}
 use Rattle.exact.specs.Order.{magnitude}
 use Rattle.interp.specs.Points.{near_weight, far_weight, weight3, weights_at}
-use Rattle.interp.specs.declared.points.Weights.{Weights}
 
 both : (a b : Bool) → (a && b) ≡ true → (a ≡ true) × (b ≡ true)
 both true b e = (refl, e)
@@ -57,7 +56,7 @@ near-is u v e h = rw (e, h)
 -- the four weights of a part f of 1
 module _ (f : Float) (p : (lt f0 f && lt f f1) ≡ true) (q : (lt f0 (f1 ⊖ f) && lt (f1 ⊖ f) f1) ≡ true)
     (r : (not (lt (neg (neg f1 ⊖ f)) f1) && lt (neg (neg f1 ⊖ f)) f2) ≡ true) (s : (not (lt (f2 ⊖ f) f1) && lt (f2 ⊖ f) f2) ≡ true) where
-  pub part-weights : ◌≡◌ {A = Weights} (record { a = far_weight (neg (neg f1 ⊖ f)); b = near_weight f; c = near_weight (f1 ⊖ f); d = far_weight (f2 ⊖ f) }) (weights_at f)
+  pub part-weights : far_weight (neg (neg f1 ⊖ f)) ∷ near_weight f ∷ near_weight (f1 ⊖ f) ∷ far_weight (f2 ⊖ f) ∷ [] ≡ weights_at f
   part-weights =
       let x : Float = neg f1 ⊖ f in
       let z : Float = f1 ⊖ f in

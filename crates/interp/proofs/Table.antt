@@ -1,6 +1,6 @@
 -- The table is read inside it, and a tap by its place in the table is the definition's. Assumes nothing.
 -- Of a magnitude below 16, 512 times that is at most 8192.
-use Rattle.std.proofs.Common.{◌≡◌, ℕ, zero, suc, ◌+◌, ◌*◌, ◌^◌, ◌<◌, ◌≤◌, Bool, true, false, cond, not, T, ltb, ◌≢◌, List, length, get_or, set, sym, refl, ap, ◌∙◌, subst, inl, inr, lt_irrefl, le_antisymm, eq-or-lt_of_le, arith, le→leb, ltb→lt, get_or-set_other, get_or-set_same, le-leb}
+use Rattle.std.proofs.Common.{◌≡◌, ℕ, zero, suc, ◌+◌, ◌*◌, ◌^◌, ◌<◌, ◌≤◌, Bool, true, false, cond, not, T, ltb, List, sym, refl, ap, ◌∙◌, subst, true≢false, None, Some, arith, le→leb, ltb→lt, le-leb}
 use lib.Ieee.Back.{unsigned_back}
 use lib.Ieee.Fits.{down_pos}
 use lib.Ieee.Order.{round_mono}
@@ -8,11 +8,12 @@ use lib.Ieee.{Float, nan, inf, fin, Format, binary32, prec, emax, low, up, down,
 use Rattle.exact.specs.Value.{plus}
 use Rattle.exact.specs.Single.{◌⊗◌, ◌⊖◌, single, f16, f512, f8193}
 use Rattle.exact.specs.Order.{magnitude}
-use Rattle.interp.specs.Sinc.{window_at, crossings_of, tapped}
-use Rattle.interp.specs.Places.{place_of, entry_of, part_of, weight_at, tapped_by, Placed}
-use Rattle.interp.specs.declared.sinc.SincSpan.{SincSpan}
+use Rattle.interp.specs.Sinc.{window_at, tapped}
+use Rattle.interp.specs.Places.{place_of, entry_of, part_of, weight_at, tapped_by, tap_place}
 use Rattle.interp.specs.Sinc.{Sums}
+use Rattle.interp.specs.declared.tap.TapPlace.{TapPlace}
 use Rattle.interp.proofs.Range.{Within, within}
+use Rattle.std.specs.Option.{is_some, unwrap_or}
 
 pub in_table : (u : Float) → T (plus u) → T (lt u f16) → Within 8192 (u ⊗ f512)
 unfolding lt mul of_bits
@@ -119,24 +120,14 @@ inside-number (fin s m e) t = tt
 place-within : (v : Float) → T (plus (place_of v)) × T (le (place_of v) f8193) × (entry_of v ≤ 8193)
 place-within v = place_at (lt (magnitude v) f16) v refl
 
--- its entry, by the whole part as a float
-pub entry : (v y : Float) → y ≡ single (entry_of v) → T (in_unsigned binary32 16 y) × (to_unsigned 16 y ≡ entry_of v)
-unfolding in_float
-entry v y e =
-    let s = (place-within v).2 in
-    let b = unsigned_back binary32 16 (entry_of v) (le→leb (entry_of v) (2 ^ 24) (omega arith)) (omega arith) in
-    (subst (λ (z : Float). T (in_unsigned binary32 16 z)) (sym e) b.0, ap (to_unsigned 16) e ∙ b.1)
+-- the float place y and its whole part t
+pub place-fits : (v y : Float) → y ≡ place_of v → T (plus y) × T (le y f8193)
+place-fits v y p = rw p ((place-within v).0, (place-within v).1)
 
--- the same with the float place y and its whole part t
-module _ (v y t : Float) (p : y ≡ place_of v) where
-  pub place-fits : T (plus y) × T (le y f8193)
-  place-fits = rw p ((place-within v).0, (place-within v).1)
-
-  pub split : t ≡ single (to_unsigned 64 y) → T (in_unsigned binary32 16 t) × (to_unsigned 16 t ≡ entry_of v) × (y ⊖ t ≡ part_of v)
-  split q =
-      let r : t ≡ single (entry_of v) = q ∙ ap (λ (z : Float). single (to_unsigned 64 z)) p in
-      let e = entry v t r in
-      (e.0, e.1, ap (λ (z : Float). z ⊖ t) p ∙ ap (λ (z : Float). place_of v ⊖ z) r)
+pub split : (v y t : Float) → y ≡ place_of v → t ≡ single (to_unsigned 64 y) → (to_unsigned 64 y ≡ entry_of v) × (y ⊖ t ≡ part_of v)
+split v y t p q =
+    let r : t ≡ single (entry_of v) = q ∙ ap (λ (z : Float). single (to_unsigned 64 z)) p in
+    (ap (to_unsigned 64) p, ap (λ (z : Float). z ⊖ t) p ∙ ap (λ (z : Float). place_of v ⊖ z) r)
 
 -- ---- a tap by its place
 by-at : (b : Bool) (table : List Float) (v x : Float) (s : Sums) → lt (magnitude v) f16 ≡ b → tapped_by table (entry_of v) (part_of v) x s ≡ tapped table v x s
@@ -149,31 +140,36 @@ by-at false table v x s e = rw (e, last_entry)
 pub by_place : (table : List Float) (v x : Float) (s : Sums) → tapped_by table (entry_of v) (part_of v) x s ≡ tapped table v x s
 by_place table v x s = by-at (lt (magnitude v) f16) table v x s refl
 
--- ---- one place more
-module _ (span : SincSpan) (f : Float) (es : List ℕ) (gs : List Float) (k : ℕ) where
-  pub placed-none : Placed span f es gs 0
-  placed-none = record { entry = λ (j : ℕ) (h : j < 0). absurd (none j h); part = λ (j : ℕ) (h : j < 0). absurd (none j h) }
-    where
-      none : (j : ℕ) → j < 0 → ⊥
-      none j h = omega arith
+-- ---- a tap of the size u that the window reaches
+module _ (v u : Float) (e : u ≡ magnitude v) (t : lt u f16 ≡ true) where
+  pub reached : T (lt (magnitude v) f16)
+  reached = subst (λ (x : Float). T (lt x f16)) e (yes t)
 
-  pub placed-all : k ≤ 2 * span.half → 2 * span.half ≤ k → Placed span f es gs k → Placed span f es gs (2 * span.half)
-  placed-all a b p = subst (λ (j : ℕ). Placed span f es gs j) (le_antisymm a b) p
+  pub place_is : u ⊗ f512 ≡ place_of v
+  place_is = place_inside v u reached e
 
-  pub placed-more : (i : ℕ) (g : Float) → Placed span f es gs k → k < length es → k < length gs → i ≡ entry_of (crossings_of span f k) → g ≡ part_of (crossings_of span f k)
-      → Placed span f (set es k i) (set gs k g) (k + 1)
-  placed-more i g p a b q r =
-      record {
-        entry = below-more-at es (λ (j : ℕ) (x : ℕ). x ≡ entry_of (crossings_of span f j)) 0 i p.entry a q;
-        part = below-more-at gs (λ (j : ℕ) (x : Float). x ≡ part_of (crossings_of span f j)) nan g p.part b r;
-      }
-    where
-      other : (j : ℕ) → j < k → j ≢ k
-      other j s e = lt_irrefl k (subst (λ (z : ℕ). z < k) e s)
+  pub entry-most : entry_of v ≤ 8192
+  unfolding place_of
+  entry-most = rw (true_of (lt (magnitude v) f16) reached) (in_table (magnitude v) (magnitude-plus v reached) reached).small
 
-      below-more-at : {A : Type 0} (l : List A) (P : ℕ → A → Type 0) (d y : A) → ((j : ℕ) → j < k → P j (get_or l j d)) → k < length l → P k y
-          → (j : ℕ) → j < k + 1 → P j (get_or (set l k y) j d)
-      below-more-at l P d y f h q j t = elim (eq-or-lt_of_le {n = j} {m = k} (omega arith)) [
-        | inl e ↦ subst (λ (z : ℕ). P z (get_or (set l k y) z d)) (sym e) (subst (P k) (sym (get_or-set_same l k y d h)) q)
-        | inr s ↦ subst (P j) (sym (get_or-set_other l k j y d (other j s))) (f j s)
-      ]
+-- a tap that has a place, and one that has none
+pub placed : (v : Float) (t : TapPlace) → Some t ≡ tap_place v → (t ≡ record { entry = entry_of v; part = part_of v }) × (t.entry ≤ 8192)
+unfolding tap_place
+placed v t p = go (lt (magnitude v) f16) refl p
+  where
+    go : (b : Bool) → lt (magnitude v) f16 ≡ b → Some t ≡ cond b (Some (record { entry = entry_of v; part = part_of v })) None → (t ≡ record { entry = entry_of v; part = part_of v }) × (t.entry ≤ 8192)
+    go true e q =
+        let i : t ≡ record { entry = entry_of v; part = part_of v } = ap (λ o. unwrap_or o t) q in
+        (i, subst (λ (n : ℕ). n ≤ 8192) (sym (ap (λ (u : TapPlace). u.entry) i)) (entry-most v (magnitude v) refl e))
+    go false e q = absurd (true≢false (ap is_some q))
+
+pub missed : (v : Float) → None ≡ tap_place v → lt (magnitude v) f16 ≡ false
+unfolding tap_place
+missed v p = go (lt (magnitude v) f16) p
+  where
+    tap : TapPlace
+    tap = record { entry = entry_of v; part = part_of v }
+
+    go : (b : Bool) → None ≡ cond b (Some tap) None → b ≡ false
+    go true q = absurd (true≢false (sym (ap is_some q)))
+    go false q = refl

@@ -4,3 +4,4 @@ pub mod Span
 pub mod Sinc
 pub mod Read
 pub mod Places
+pub mod Nothing

@@ -1,9 +1,8 @@
 -- The kernels of two and of four points. Definitions only.
-use Rattle.std.specs.Prelude.{ℕ, ◌+◌, ◌-◌, cond, List, nat_le, slice_index_or, Float}
+use Rattle.std.specs.Prelude.{ℕ, ◌+◌, ◌-◌, cond, List, [], ◌∷◌, nat_le, slice_index_or, Float}
 use Rattle.std.specs.Float.Ieee.{lt, neg}
 use Rattle.exact.specs.Single.{◌⊕◌, ◌⊖◌, ◌⊗◌, f0, f0_5, f1, f1_5, f2, f2_5, f4}
 use Rattle.exact.specs.Order.{magnitude}
-use Rattle.interp.specs.declared.points.Weights.{Weights}
 
 -- how many frames of silence a channel has in front: `PCM_PAD`
 abbrev pub pad : ℕ
@@ -34,8 +33,8 @@ linear_at frames n f =
     a ⊕ f ⊗ (b ⊖ a)
 
 -- the weights of the frames around a position that lies f behind the second of them
-abbrev pub weights_at : Float → Weights
-weights_at f = record { a = weight3 (neg f1 ⊖ f); b = weight3 (neg f); c = weight3 (f1 ⊖ f); d = weight3 (f2 ⊖ f) }
+abbrev pub weights_at : Float → List Float
+weights_at f = weight3 (neg f1 ⊖ f) ∷ weight3 (neg f) ∷ weight3 (f1 ⊖ f) ∷ weight3 (f2 ⊖ f) ∷ []
 
 -- the frames in the places n - 1 to n + 2, each by the weight of its distance from n + f
 unfoldable pub hermite_at : List Float → ℕ → Float → Float

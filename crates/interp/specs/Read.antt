@@ -1,5 +1,5 @@
 -- One frame of a sample at a position between its frames. Definitions only.
-use Rattle.std.specs.Prelude.{ℕ, ◌+◌, Bool, cond, List, Float}
+use Rattle.std.specs.Prelude.{ℕ, ◌+◌, cond, List, Option, option_map, unwrap_or, Float}
 use Rattle.std.specs.Float.Ieee.{eq, to_unsigned}
 use Rattle.exact.specs.Single.{f0, f1, f2}
 use Rattle.interp.specs.Position.{fraction}
@@ -8,7 +8,7 @@ use Rattle.interp.specs.Sinc.{sinc_at}
 use Rattle.interp.specs.declared.Interp.{Interp}
 use Rattle.interp.specs.declared.Interp.TheVariants.{Linear, Hermite, Sinc}
 use Rattle.interp.specs.declared.sinc.SincSpan.{SincSpan}
-use Rattle.interp.specs.declared.channels.Pair.{Pair}
+use Rattle.exact.specs.declared.pair.Pair.{Pair}
 
 -- 0 is linear, 1 Hermite, 2 sinc
 unfoldable pub by_quality : Float → Interp → Interp
@@ -25,5 +25,6 @@ unfoldable pub read_at : Interp → List Float → Float → List Float → Sinc
 read_at kind frames p table span = kernel_at kind frames table span (to_unsigned 64 p + pad) (fraction p)
 
 -- both channels; a mono sample has no right one, which reads 0.0
-unfoldable pub pair_at : Interp → List Float → List Float → Bool → Float → List Float → SincSpan → Pair
-pair_at kind a b stereo p table span = record { l = read_at kind a p table span; r = cond stereo (read_at kind b p table span) f0 }
+unfoldable pub pair_at : Interp → List Float → Option (List Float) → Float → List Float → SincSpan → Pair Float
+pair_at kind a b p table span =
+    record { l = read_at kind a p table span; r = unwrap_or (option_map (λ frames. read_at kind frames p table span) b) f0 }

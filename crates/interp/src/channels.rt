@@ -4,35 +4,19 @@ ghost use Rattle.std.specs.Fn.{FnReturnsAt};
 ghost use Rattle.exact.specs.Single.{◌⊕◌, ◌⊗◌, f0};
 ghost use Rattle.interp.specs.Points.{frame_at};
 ghost use Rattle.interp.specs.Sinc.{mean_of};
+ghost use Rattle.interp.specs.Nothing.{either};
 
 use crate::points::frame_at;
-
-// Both channels of one frame.
-#[derive(Clone, Copy)]
-pub struct Pair {
-    pub l: f32,
-    pub r: f32,
-}
-
-// Both channels of a sample.
-#[derive(Clone, Copy)]
-pub struct Both<'a> {
-    pub l: &'a [f32],
-    pub r: &'a [f32],
-}
+use exact::pair::Pair;
 
 pub trait Channels: Copy {
     // A number for each channel.
-    type Frame: Copy;
+    type Frame: Copy + Default;
 
     // The left channel's frames and number, or the right one's; one channel alone is both.
     ghost frames: { Self → Bool → List Float };
 
     ghost part: { Self.Frame → Bool → Float };
-
-    // Silence.
-    fn none(self) -> Self::Frame
-        ensures { (right : Bool) → part result right ≡ f0 };
 
     // What `read` makes of each channel's frames.
     fn each<F: Fn(&[f32]) -> f32>(self, read: F) -> Self::Frame
@@ -46,6 +30,9 @@ pub trait Channels: Copy {
     // Each sum over the sum of the weights.
     fn mean(self, sum: Self::Frame, wsum: f32) -> Self::Frame
         ensures { (right : Bool) → part result right ≡ mean_of (record { acc = part sum right; wsum = wsum }) };
+
+    // A sum of none.
+    ghost nothing: { (x : Self.Frame) (right : Bool) → Self.Frame.is_default x → part x right ≡ f0 };
 }
 
 // The sum over the sum of the weights.
@@ -63,10 +50,6 @@ impl<'a> Channels for &'a [f32] {
 
     ghost part = { λ x right. x };
 
-    fn none(self) -> f32 {
-        0.0
-    }
-
     fn each<F: Fn(&[f32]) -> f32>(self, read: F) -> f32 {
         read(self)
     }
@@ -78,37 +61,37 @@ impl<'a> Channels for &'a [f32] {
     fn mean(self, sum: f32, wsum: f32) -> f32 {
         mean(sum, wsum)
     }
+
+    ghost nothing = { λ x right e. e };
 }
 
-impl<'a> Channels for Both<'a> {
-    type Frame = Pair;
+impl<'a> Channels for Pair<&'a [f32]> {
+    type Frame = Pair<f32>;
 
     ghost frames = { λ s right. cond right s.r.now s.l.now };
 
     ghost part = { λ x right. cond right x.r x.l };
 
-    fn none(self) -> Pair {
-        Pair { l: 0.0, r: 0.0 }
-    }
-
-    fn each<F: Fn(&[f32]) -> f32>(self, read: F) -> Pair {
+    fn each<F: Fn(&[f32]) -> f32>(self, read: F) -> Pair<f32> {
         Pair {
             l: read(self.l),
             r: read(self.r),
         }
     }
 
-    fn more(self, sum: Pair, w: f32, n: usize) -> Pair {
+    fn more(self, sum: Pair<f32>, w: f32, n: usize) -> Pair<f32> {
         Pair {
             l: sum.l + w * frame_at(self.l, n),
             r: sum.r + w * frame_at(self.r, n),
         }
     }
 
-    fn mean(self, sum: Pair, wsum: f32) -> Pair {
+    fn mean(self, sum: Pair<f32>, wsum: f32) -> Pair<f32> {
         Pair {
             l: mean(sum.l, wsum),
             r: mean(sum.r, wsum),
         }
     }
+
+    ghost nothing = { λ x right e. either right x e };
 }

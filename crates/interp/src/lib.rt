@@ -6,15 +6,17 @@ pub mod channels;
 pub mod points;
 pub mod position;
 pub mod sinc;
+pub mod tap;
 
-ghost use Rattle.std.specs.Prelude.{◌≡◌, ◌≤◌, Bool, length};
+ghost use Rattle.std.specs.Prelude.{◌≡◌, ◌≤◌, Bool, option_map};
 ghost use Rattle.interp.specs.Position.{Position};
 ghost use Rattle.interp.specs.Read.{by_quality, read_at, pair_at};
 
-use crate::channels::{Both, Channels, Pair};
-use crate::points::{PCM_PAD, hermite, linear};
-use crate::position::{fraction, frame_index};
+use crate::channels::Channels;
+use crate::points::{hermite, linear};
+use crate::position::Place;
 use crate::sinc::SincSpan;
+use exact::pair::Pair;
 
 // Which kernel a voice reads its samples with.
 #[derive(Clone, Copy, PartialEq, Eq, Debug)]
@@ -39,47 +41,51 @@ impl Interp {
     }
 }
 
-// One channel at the position p.
-pub fn read(kind: Interp, frames: &[f32], p: f64, table: &[f32], span: SincSpan) -> f32
-    requires { Position p × (length table.now ≡ 8194) × (span.half ≤ 40) }
-    ensures { result ≡ read_at kind frames.now p table.now span }
-{
-    kernel(kind, frames, p, table, span)
+// How a voice reads its samples: its kernel, and what the windowed sinc needs.
+#[derive(Clone, Copy)]
+pub struct Kernel<'a> {
+    pub kind: Interp,
+    pub table: &'a [f32; 8194],
+    pub span: SincSpan,
+    pub ghost reach: { span.half ≤ 40 },
 }
 
-// Both channels at the position p; the right one of a mono sample is 0.0.
-pub fn read_pair(
-    kind: Interp,
-    a: &[f32],
-    b: &[f32],
-    stereo: bool,
-    p: f64,
-    table: &[f32],
-    span: SincSpan,
-) -> Pair
-    requires { Position p × (length table.now ≡ 8194) × (span.half ≤ 40) }
-    ensures { result ≡ pair_at kind a.now b.now stereo p table.now span }
-{
-    if stereo {
-        return kernel(kind, Both { l: a, r: b }, p, table, span);
+impl<'a> Kernel<'a> {
+    // One channel at the position p.
+    pub fn read(self, frames: &[f32], p: f64) -> f32
+        requires { Position p }
+        ensures { result ≡ read_at self.entry.kind frames.now p self.entry.table.now self.entry.span }
+    {
+        self.each(frames, p)
     }
-    Pair {
-        l: kernel(kind, a, p, table, span),
-        r: 0.0,
-    }
-}
 
-// Each channel at the position p.
-#[inline]
-fn kernel<C: Channels>(kind: Interp, channels: C, p: f64, table: &[f32], span: SincSpan) -> C::Frame
-    requires { Position p × (length table.now ≡ 8194) × (span.half ≤ 40) }
-    ensures { (right : Bool) → C.part result right ≡ read_at kind (C.frames channels right) p table.now span }
-{
-    let n = (frame_index(p) as usize) + PCM_PAD;
-    let f = fraction(p);
-    match kind {
-        Interp::Linear => channels.each(|x| linear(x, n, f)),
-        Interp::Hermite => channels.each(|x| hermite(x, n, f)),
-        Interp::Sinc => sinc::sinc(table, channels, span, n, f),
+    // Both channels at the position p; the right one of a mono sample is 0.0. It is compiled into the loop over frames and `sinc`,
+    // which is long, is not: called from the loop, a linear frame took 1.01 of the Rust's time in place of 0.83.
+    #[inline(always)]
+    pub fn read_pair(self, a: &[f32], b: Option<&[f32]>, p: f64) -> Pair<f32>
+        requires { Position p }
+        ensures { result ≡ pair_at self.entry.kind a.now (option_map (λ s. s.now) b.entry) p self.entry.table.now self.entry.span }
+    {
+        match b {
+            Some(b) => self.each(Pair { l: a, r: b }, p),
+            None => Pair {
+                l: self.each(a, p),
+                r: 0.0,
+            },
+        }
+    }
+
+    // Each channel at the position p.
+    #[inline(always)]
+    fn each<C: Channels>(self, channels: C, p: f64) -> C::Frame
+        requires { Position p }
+        ensures { (right : Bool) → C.part result right ≡ read_at self.entry.kind (C.frames channels right) p self.entry.table.now self.entry.span }
+    {
+        let at = Place::of(p);
+        match self.kind {
+            Interp::Linear => channels.each(|x| linear(x, at)),
+            Interp::Hermite => channels.each(|x| hermite(x, at)),
+            Interp::Sinc => sinc::sinc(self, channels, at),
+        }
     }
 }

@@ -1,9 +1,10 @@
 // The kernels of two and of four points.
-ghost use Rattle.std.specs.Prelude.{◌≡◌, ◌≤◌, not, ◌&&◌};
+ghost use Rattle.std.specs.Prelude.{◌≡◌, not, ◌&&◌};
 ghost use Rattle.std.specs.Float.Ieee.{lt};
 ghost use Rattle.exact.specs.Single.{f0, f1, f2};
 ghost use Rattle.interp.specs.Points.{near_weight, far_weight, weight3, frame_at, linear_at, weights_at, hermite_at};
 
+use crate::position::Place;
 use exact::order::abs_f32;
 
 // How many frames of silence a channel has in front: places count from there, so that none that a kernel draws on is below 0.
@@ -14,28 +15,17 @@ pub const PCM_PAD: usize = 42;
 pub fn frame_at(frames: &[f32], n: usize) -> f32
     ensures { result ≡ frame_at frames.now n }
 {
-    let i = n.wrapping_sub(PCM_PAD);
-    if i < frames.len() { frames[i] } else { 0.0 }
+    frames.get(n.wrapping_sub(PCM_PAD)).copied().unwrap_or(0.0)
 }
 
-// Between the frames in the places n and n + 1, by f.
+// Between the frame in a place and the next one.
 #[tactic(auto, unfolding(crate::specs::Points::linear_at))]
-pub fn linear(frames: &[f32], n: usize, f: f32) -> f32
-    requires { n ≤ 8589934634 }
-    ensures { result ≡ linear_at frames.now n f }
+pub fn linear(frames: &[f32], at: Place) -> f32
+    ensures { result ≡ linear_at frames.now at.n at.f }
 {
-    let a = frame_at(frames, n);
-    let b = frame_at(frames, n + 1);
-    a + f * (b - a)
-}
-
-// The weights of four frames.
-#[derive(Drop)]
-pub struct Weights {
-    pub a: f32,
-    pub b: f32,
-    pub c: f32,
-    pub d: f32,
+    let a = frame_at(frames, at.n);
+    let b = frame_at(frames, at.n + 1);
+    a + at.f * (b - a)
 }
 
 // The weight below the distance 1.
@@ -72,15 +62,10 @@ pub fn hermite3(x: f32) -> f32
 }
 
 // The weights of any f, one by one.
-fn each_weight(f: f32) -> Weights
+fn each_weight(f: f32) -> [f32; 4]
     ensures { result ≡ weights_at f }
 {
-    Weights {
-        a: hermite3(-1.0 - f),
-        b: hermite3(-f),
-        c: hermite3(1.0 - f),
-        d: hermite3(2.0 - f),
-    }
+    [-1.0 - f, -f, 1.0 - f, 2.0 - f].map(hermite3)
 }
 
 // Whether v lies between 0 and 1.
@@ -99,33 +84,27 @@ fn in_second(v: f32) -> bool
 
 // The weights around a position that lies f behind the second frame. Where f is a part of 1 it is known which side of 1 each
 // distance lies on, and its sign: the machine then works the four out side by side.
-fn weigh(f: f32) -> Weights
+fn weigh(f: f32) -> [f32; 4]
     ensures { result ≡ weights_at f }
 {
     let x = -(-1.0 - f);
     let z = 1.0 - f;
     let w = 2.0 - f;
     if in_first(f) && in_first(z) && in_second(x) && in_second(w) {
-        return Weights {
-            a: far_weight(x),
-            b: near_weight(f),
-            c: near_weight(z),
-            d: far_weight(w),
-        };
+        return [far_weight(x), near_weight(f), near_weight(z), far_weight(w)];
     }
     each_weight(f)
 }
 
-// The frames in the places n - 1 to n + 2, each by its weight.
+// The frames around a place, from the one before it to the second behind it, each by its weight.
 #[tactic(auto, unfolding(crate::specs::Points::hermite_at))]
-pub fn hermite(frames: &[f32], n: usize, f: f32) -> f32
-    requires { (42 ≤ n) × (n ≤ 8589934634) }
-    ensures { result ≡ hermite_at frames.now n f }
+pub fn hermite(frames: &[f32], at: Place) -> f32
+    ensures { result ≡ hermite_at frames.now at.n at.f }
 {
-    let a = frame_at(frames, n - 1);
-    let b = frame_at(frames, n);
-    let c = frame_at(frames, n + 1);
-    let d = frame_at(frames, n + 2);
-    let w = weigh(f);
-    w.a * a + w.b * b + w.c * c + w.d * d
+    let a = frame_at(frames, at.n - 1);
+    let b = frame_at(frames, at.n);
+    let c = frame_at(frames, at.n + 1);
+    let d = frame_at(frames, at.n + 2);
+    let w = weigh(at.f);
+    w[0] * a + w[1] * b + w[2] * c + w[3] * d
 }

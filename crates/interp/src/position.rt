@@ -1,9 +1,34 @@
-// A position in a sample: the frame at or before it, and what lies between the two.
-ghost use Rattle.std.specs.Prelude.{◌≡◌, ◌≤◌, if◌then◌else◌};
+// A position in a sample: the frame at or before it, and what lies between the two. It is a number with a fact and no type of its own: the
+// player's is in the memory that the host hands in, and each sum of a position and a step is a number before it is known to be a position,
+// so that callers would wrap and unwrap at every step to save one clause a function.
+ghost use Rattle.std.specs.Prelude.{◌≡◌, ◌≤◌, ◌+◌, if◌then◌else◌};
 ghost use Rattle.std.specs.Float.Ieee.{lt, to_unsigned};
 ghost use Rattle.interp.specs.Position.{Position, floored, fraction, is_whole, double, looped};
 
-use exact::format::narrow_part;
+use crate::points::PCM_PAD;
+use exact::format::narrow;
+
+// What a kernel reads around: a place among the frames, counted from the silence in front, and how far behind it the position lies.
+#[derive(Clone, Copy)]
+pub struct Place {
+    pub n: usize,
+    pub f: f32,
+    pub ghost in_reach: { (42 ≤ n) × (n ≤ 8589934634) },
+}
+
+impl Place {
+    // That of the position p.
+    #[inline(always)]
+    pub(crate) fn of(p: f64) -> Place
+        requires { Position p }
+        ensures { (result.n ≡ to_unsigned 64 p + 42) × (result.f ≡ fraction p) }
+    {
+        Place {
+            n: (frame_index(p) as usize) + PCM_PAD,
+            f: fraction(p),
+        }
+    }
+}
 
 // What the whole number r next to x is too many.
 fn excess(r: f64, x: f64) -> f64
@@ -12,7 +37,8 @@ fn excess(r: f64, x: f64) -> f64
     if r > x { 1.0 } else { 0.0 }
 }
 
-// A position without its fraction. From 2^52 on doubles are whole numbers, so that p + 2^52 is rounded to one; it may be one too
+// A position without its fraction: five operations without a branch, where std's `floor` takes the size by two tests, tests it against 2^52,
+// rounds it both up and down and puts the sign back, some twenty, and a player's frame asks for three. From 2^52 on doubles are whole numbers, so that p + 2^52 is rounded to one; it may be one too
 // many.
 fn whole(p: f64) -> f64
     requires { Position p }
@@ -47,7 +73,7 @@ pub fn fraction(p: f64) -> f32
     ensures { result ≡ fraction p }
 {
     // a zero with a sign loses it, as it does by its own floor; no branch is needed then
-    narrow_part(p + 0.0 - whole(p))
+    narrow(p + 0.0 - whole(p))
 }
 
 // Whether a position is a frame.

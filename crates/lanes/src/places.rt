@@ -8,16 +8,20 @@ ghost use Rattle.interp.specs.Places.{place_of, weight_at};
 ghost use Rattle.lanes.specs.Four.{Inside, Parts, Rows, Low, TapOf, Few};
 
 use crate::four::{Four, Tap};
-use interp::sinc::{SincSpan, weight, whole};
+use interp::sinc::SincSpan;
+use interp::tap::{TapPlace, whole};
 
 // In the table the entry at or before each tap, and the part of the way to the next one. Tap k of the four has the places from 4 k on.
+// Flat lists, with the entry 8193 outside the window: as rows of four `Option<TapPlace>` each, with an `Option` for each weight too,
+// 32 stereo players took 5 % more time (12.3 ms a block against 11.7, both built without proofs), and of the sinc loads' 0.45 of the
+// Rust's time none is to spare.
 #[derive(Drop)]
 pub struct Places {
     pub entries: [u32; 320],
     pub parts: [f32; 320],
 }
 
-// A number without its sign, which is a bit.
+// A number without its sign, which is a bit: one operation where std's `abs` is five (two tests, two masks and a choice).
 fn size(v: f32) -> f32
     requires { T (not (is_nan v)) }
     ensures { result ≡ magnitude v }
@@ -35,12 +39,12 @@ fn near<const END: bool>(v: f32) -> f32
 }
 
 // The weight by the table of a tap in the window; of one outside it, that by the last entry.
-fn weight_of<const END: bool>(table: &[f32], i: u32, g: f32) -> f32
-    requires { (length table.now ≡ 8194) × ((END ≡ false) → i ≤ 8192) }
+fn weight_of<const END: bool>(table: &[f32; 8194], i: u32, g: f32) -> f32
+    requires { (END ≡ false) → i ≤ 8192 }
     ensures { result ≡ weight_at table.now (min i 8192) g }
 {
-    let at = if END { i.min(8192) } else { i };
-    weight(table, at as usize, g)
+    let entry = if END { i.min(8192) } else { i };
+    TapPlace { entry, part: g }.weight(table)
 }
 
 impl Places {
@@ -79,7 +83,8 @@ impl Places {
         self.parts[m + 3] = y.x3 - w3;
     }
 
-    // The places of tap k of all four, d before them.
+    // The places of tap k of all four, d before them. What is asked of span and f is handed on by three functions: a struct of the two with
+    // both facts would be made once, in the caller, by the same two proofs, and what is said of the lists, which change, could not be in it.
     fn put_tap<const END: bool>(&mut self, span: SincSpan, f: Four, d: f32, k: usize)
         requires { Inside span × Parts f × (k < 2 * span.half) × ((END ≡ false) → (0 < k) × (k + 1 < 2 * span.half)) × (d ≡ single span.half ⊖ f1 ⊖ single k) × Rows span f self.old.entries self.old.parts k }
         ensures { Rows span f self.new.entries self.new.parts (k + 1) }
@@ -121,8 +126,8 @@ impl Places {
     }
 
     // Tap k of all four.
-    pub fn tap<const END: bool>(&self, table: &[f32], k: usize) -> Tap
-        requires { (length table.now ≡ 8194) × (k < 80) × ((END ≡ false) → Low self.now.entries k) }
+    pub fn tap<const END: bool>(&self, table: &[f32; 8194], k: usize) -> Tap
+        requires { (k < 80) × ((END ≡ false) → Low self.now.entries k) }
         ensures { TapOf table.now self.now.entries self.now.parts k result }
     {
         let m = 4 * k;

@@ -1,4 +1,3 @@
 pub mod Splitting
 pub mod Numerals
 pub mod Tables
-pub mod Printing

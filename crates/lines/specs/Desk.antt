@@ -88,7 +88,7 @@ block_at l = do
   gate ← number 1 (field_at l 4)
   freq ← single (field_at l 5)
   vel ← single (field_at l 6)
-  Some (record { voice = voice; offset = offset; frames = frames; gate = eqb gate 1; freq = freq; vel = vel })
+  Some (record { play = record { voice = voice; offset = offset; frames = frames }; gate = eqb gate 1; freq = freq; vel = vel })
 
 unfoldable pub block_line : List ℕ → Option DeskLine
 block_line l = cond (has_fields 7 l) (option_map Block (block_at l)) None

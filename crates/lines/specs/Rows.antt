@@ -1,5 +1,5 @@
 -- The fields of the block lister's lines that give words of a region, a row for each, and those words (docs/PROGRAM.md). Definitions only.
-use Rattle.std.specs.Prelude.{ℕ, ◌+◌, Bool, true, false, cond, ◌&&◌, List, [], ◌∷◌, ◌++◌, length, set, Option, Some, None, is_some, unwrap_or, pos}
+use Rattle.std.specs.Prelude.{ℕ, ◌+◌, Bool, true, false, cond, ◌&&◌, List, [], ◌∷◌, ◌++◌, length, set, Option, Some, None, is_some, option_map, unwrap_or, pos}
 use Rattle.std.specs.Float.{binary32}
 use Rattle.std.specs.Float.Ieee.{to_bits}
 use Rattle.program.specs.Region.{float_of}
@@ -13,7 +13,14 @@ use Rattle.lines.specs.Fields as fields
 use Rattle.lines.specs.Desk.{max32}
 use Rattle.lines.specs.Desk as desk
 
--- what a field is read as: a number of at most max, a single in capitals, a number with its sign, a sample's number or `-`
+-- what a field is read as, as a word: a number of at most max, a single in capitals, a number with its sign, a sample's number or `-`
+abbrev pub form_value : Form → List ℕ → Option ℕ
+form_value (Number max) f = fields.number max f
+form_value Single f = option_map (to_bits binary32) (capital_single f)
+form_value Signed f = option_map word_of (signed f)
+form_value Sample f = option_map (λ n. unwrap_or n max32) (desk.maybe f)
+
+-- whether it can be read
 abbrev pub form_fits : Form → List ℕ → Bool
 form_fits (Number max) f = is_some (fields.number max f)
 form_fits Single f = is_some (capital_single f)

@@ -2,7 +2,7 @@
 ghost use Rattle.std.specs.Prelude.{◌≡◌, Option, ok_or};
 ghost use Rattle.lines.specs.Block.{content_of, input_of, entry_line, sample_at, sample_line, part_line, point_line, voice_line, set_at, input_line, play_line, block_line};
 
-use super::desk::voice_at;
+use super::desk::{PlayLine, voice_at};
 use super::field::{byte, capital_single, field, has_fields, is_none, number, word};
 use super::rows::{Part, gives};
 
@@ -43,15 +43,8 @@ pub struct Set {
     pub value: f32,
 }
 
-#[derive(Clone, Copy)]
-pub struct PlayLine {
-    pub voice: u64,
-    pub offset: u64,
-    pub frames: u32,
-}
-
 // W, S, one of R, F and Q, C, V, I (which sets an input, or disconnects it), B, A, Z and D. What V and B hold differs from the desk
-// lister's, so that the two share no type.
+// lister's, so that the two share no type but `PlayLine`.
 #[derive(Clone, Copy)]
 pub enum Line {
     Entry { index: u32, value: f32 },

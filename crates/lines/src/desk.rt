@@ -21,11 +21,18 @@ pub struct RegionLine {
     pub seq: Option<Seq>,
 }
 
+// The block that a B line asks for.
 #[derive(Clone, Copy)]
-pub struct BlockLine {
+pub struct PlayLine {
     pub voice: u64,
     pub offset: u64,
     pub frames: u32,
+}
+
+// The same with the inputs, which are as they are throughout.
+#[derive(Clone, Copy)]
+pub struct BlockLine {
+    pub play: PlayLine,
     pub gate: bool,
     pub freq: f32,
     pub vel: f32,
@@ -169,10 +176,13 @@ fn block_at(line: &[u8]) -> Option<BlockLine>
     let gate = number(field(line, 4), 1)?;
     let freq = single(field(line, 5))?;
     let vel = single(field(line, 6))?;
-    Some(BlockLine {
+    let play = PlayLine {
         voice,
         offset,
         frames,
+    };
+    Some(BlockLine {
+        play,
         gate: gate == 1,
         freq,
         vel,

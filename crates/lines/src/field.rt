@@ -5,7 +5,9 @@ ghost use Rattle.lines.specs.Fields as specs;
 
 use program::region::float_of;
 
-// Field `k`, counted from 0; an empty one where there are fewer.
+// Field `k`, counted from 0; an empty one where there are fewer. It is looked for from the line's start each time. Fields found once
+// and handed on would be filled by a loop of their own, and each of the 26 readers, which say by `field_at` of the line what they
+// read, would ask that the fields that it is handed are this line's.
 pub fn field(line: &[u8], k: usize) -> &[u8]
     ensures { result.now ≡ field_at line.now k }
 {

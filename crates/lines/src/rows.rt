@@ -2,7 +2,7 @@
 // it gives.
 ghost use Rattle.std.specs.Prelude.{◌≡◌, ◌+◌, ◌≤◌, ◌<◌, length, set, Option, Bool};
 ghost use Rattle.lines.specs.Fields.{field_at};
-ghost use Rattle.lines.specs.Rows.{form_fits, form_word, is_tied, row_fits, fields_fit, line_fits, flagged, put_row, put_fields, rows_of, part_words};
+ghost use Rattle.lines.specs.Rows.{form_value, form_fits, form_word, is_tied, row_fits, fields_fit, line_fits, flagged, put_row, put_fields, rows_of, part_words};
 
 use super::desk::maybe;
 use super::field::{capital_single, field, has_fields, hex, is_none, signed, word, word_of};
@@ -127,15 +127,23 @@ fn rows_of(part: Part) -> &'static [Row]
 
 // ---- reading
 
+// The word that a field gives, where it can be read.
+fn form_value(f: &[u8], form: Form) -> Option<u32>
+    ensures { result ≡ form_value form f.now }
+{
+    match form {
+        Form::Number(max) => word(f, max),
+        Form::Single => capital_single(f).map(bits_f32),
+        Form::Signed => signed(f).map(word_of),
+        Form::Sample => maybe(f).map(|n| n.unwrap_or(SILENCE)),
+    }
+}
+
+#[tactic(auto, using(crate::proofs::Tables::fits))]
 fn form_fits(f: &[u8], form: Form) -> bool
     ensures { result ≡ form_fits form f.now }
 {
-    match form {
-        Form::Number(max) => word(f, max).is_some(),
-        Form::Single => capital_single(f).is_some(),
-        Form::Signed => signed(f).is_some(),
-        Form::Sample => maybe(f).is_some(),
-    }
+    form_value(f, form).is_some()
 }
 
 // Whether the field that decides over this one is `-`.
@@ -181,15 +189,14 @@ pub(crate) fn gives(line: &[u8], part: Part) -> bool
 
 // ---- the words of a region
 
-// What a field means beside `form_fits`: a single's word is that of its digits, whether they are eight capitals or not.
+// The same for any field: a single's word is that of its digits, whether they are eight capitals or not.
+#[tactic(auto, using(crate::proofs::Tables::value))]
 fn form_word(f: &[u8], form: Form) -> u32
     ensures { result ≡ form_word form f.now }
 {
     match form {
-        Form::Number(max) => word(f, max).unwrap_or(0),
         Form::Single => bits_f32(float_of(hex(f).unwrap_or(0))),
-        Form::Signed => word_of(signed(f).unwrap_or(0)),
-        Form::Sample => maybe(f).unwrap_or(Some(0)).unwrap_or(SILENCE),
+        _ => form_value(f, form).unwrap_or(0),
     }
 }
 

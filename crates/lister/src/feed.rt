@@ -9,6 +9,13 @@ pub const LAST: u64 = 0x8000_0000_0000_0000;
 // The longest line that is read, without its newline.
 const LONGEST: usize = 4096;
 
+// What the input holds: one script, or many that are parted by lines `=`.
+#[derive(Clone, Copy, PartialEq)]
+pub enum Scripts {
+    One,
+    Many,
+}
+
 // What came last: a line, the line `=` that parts two scripts, or the input's end.
 #[derive(Clone, Copy, PartialEq)]
 enum Last {
@@ -17,23 +24,22 @@ enum Last {
     End,
 }
 
-// The bytes from..to of the buffer are still to be taken; `ended` where no more follow. Where the input is `parted`, a line `=` ends a
-// script.
+// The bytes from..to of the buffer are still to be taken; `ended` where no more follow.
 #[derive(Drop)]
 pub struct Feed {
     buf: [u8; 65536],
     from: usize,
     to: usize,
     ended: bool,
-    parted: bool,
+    scripts: Scripts,
     last: Last,
     ghost ordered: { from ≤ to },
     ghost within: { to ≤ 65536 },
 }
 
 impl Feed {
-    // Nothing is read yet. Of one script, or of many that are parted by lines `=`.
-    pub fn new(parted: bool) -> Feed
+    // Nothing is read yet.
+    pub fn new(scripts: Scripts) -> Feed
         ensures from { result.from ≡ 0 }
         ensures to { result.to ≡ 0 }
     {
@@ -42,7 +48,7 @@ impl Feed {
             from: 0,
             to: 0,
             ended: false,
-            parted,
+            scripts,
             last: Last::Line,
         }
     }
@@ -63,11 +69,12 @@ impl Feed {
         if !self.ended && self.to - self.from <= LONGEST {
             self.refill();
         }
+        let scripts = self.scripts;
         let from = self.from;
         let rest = &self.buf[from..self.to];
         let len = rest.iter().position(|b| *b == b'\n').unwrap_or(rest.len());
         self.last = match &rest[..len] {
-            b"=" if self.parted => Last::Parting,
+            b"=" if scripts == Scripts::Many => Last::Parting,
             _ if rest.is_empty() => Last::End,
             _ => Last::Line,
         };
@@ -81,11 +88,8 @@ impl Feed {
         Some(&self.buf[from..from + len])
     }
 
-    // What is left of a script is passed over, where another may follow.
-    pub fn skip(&mut self) {
-        if !self.parted {
-            return;
-        }
+    // What is left of a script is passed over.
+    fn skip(&mut self) {
         for _ in 0..LAST {
             if self.last != Last::Line {
                 return;
@@ -95,7 +99,7 @@ impl Feed {
     }
 
     // Whether another script follows.
-    pub fn goes_on(&self) -> bool {
+    fn goes_on(&self) -> bool {
         self.last == Last::Parting
     }
 }
@@ -104,9 +108,10 @@ impl Feed {
 pub fn replay<P: Fn(&mut Feed) + Drop>(perform: P)
     requires { P.IsAlwaysCallable perform }
 {
-    let mut feed = Feed::new(true);
+    let mut feed = Feed::new(Scripts::Many);
     for _ in 0..LAST {
         perform(&mut feed);
+        feed.skip();
         if !feed.goes_on() {
             return;
         }

@@ -13,25 +13,26 @@ use interp::points::hermite3;
 use interp::sinc::SincSpan;
 use player::start::loop_at;
 use program::region::Envelope;
+use std::io;
 
-fn main() {
-    envelope(100.0);
-    envelope(50.0);
-    envelope(0.0);
-    gain(100.0, 127);
-    gain(100.0, 0);
-    gain(-100.0, 127);
-    gain(-100.0, 0);
-    kernel(0.0);
-    kernel(1.0);
-    kernel(2.0);
-    half_taps(1.0);
-    half_taps(2.0);
-    half_taps(4.0);
-    looped();
+fn main(rt: HostRuntime) -> io::Result<()> {
+    for sustain in [100.0f32, 50.0, 0.0] {
+        envelope(&rt, sustain)?;
+    }
+    for track in [100.0f32, -100.0] {
+        gain(&rt, track, 127)?;
+        gain(&rt, track, 0)?;
+    }
+    for x in [0.0f32, 1.0, 2.0] {
+        kernel(&rt, x)?;
+    }
+    for step in [1.0f64, 2.0, 4.0] {
+        half_taps(&rt, step)?;
+    }
+    looped(&rt)
 }
 
-// The first step of `Envelope::default`, but for the sustain.
+// The first step of `Envelope::default`, but for the sustain. Its fields are written out, as of the whole default this row alone is in use.
 fn first_step(rate: f32, sustain: f32) -> EnvStep
     ensures { result ≡ first_step rate sustain }
 {
@@ -40,66 +41,50 @@ fn first_step(rate: f32, sustain: f32) -> EnvStep
         attack: 0.0,
         hold: 0.0,
         decay: 0.0,
-        sustain: sustain,
+        sustain,
         release: 0.001,
         start: 0.0,
     };
     Env::new(e, 0, rate, false).next()
 }
 
-fn bits(x: f32) {
-    io::print_hex(1, bits_f32(x) as u64, 8);
-}
-
-fn end_line() {
-    io::write_all(1, b"\n");
-}
-
-fn envelope(sustain: f32) {
-    io::write_all(1, b"first envelope value at sustain ");
-    bits(sustain);
-    io::write_all(1, b": ");
+fn envelope(rt: &impl Print, sustain: f32) -> io::Result<()> {
     let s = first_step(44100.0, sustain);
-    bits(s.value);
-    let e = s.env;
-    if e.done() {
-        io::write_all(1, b", done");
-    }
-    end_line();
+    let done = if s.env.done() { ", done" } else { "" };
+    println!(rt;
+        "first envelope value at sustain {:08x}: {:08x}{done}",
+        bits_f32(sustain),
+        bits_f32(s.value)
+    )
 }
 
-fn gain(track: f32, vel: u8) {
-    io::write_all(1, b"velocity gain at ");
-    io::print_decimal(1, vel as u64);
-    io::write_all(1, b", track ");
-    bits(track);
-    io::write_all(1, b": ");
-    bits(velocity_gain(track, None, vel));
-    end_line();
+fn gain(rt: &impl Print, track: f32, vel: u8) -> io::Result<()> {
+    let gain = velocity_gain(track, None, vel);
+    println!(rt;
+        "velocity gain at {vel}, track {:08x}: {:08x}",
+        bits_f32(track),
+        bits_f32(gain)
+    )
 }
 
-fn kernel(x: f32) {
-    io::write_all(1, b"hermite3 at ");
-    bits(x);
-    io::write_all(1, b": ");
-    bits(hermite3(x));
-    end_line();
+fn kernel(rt: &impl Print, x: f32) -> io::Result<()> {
+    println!(rt;
+        "hermite3 at {:08x}: {:08x}",
+        bits_f32(x),
+        bits_f32(hermite3(x))
+    )
 }
 
-fn half_taps(step: f64) {
-    io::write_all(1, b"half taps at step ");
-    io::print_decimal(1, f64_to_usize(step) as u64);
-    io::write_all(1, b": ");
+fn half_taps(rt: &impl Print, step: f64) -> io::Result<()> {
     let span = SincSpan::for_step(step);
-    io::print_decimal(1, span.half as u64);
-    end_line();
+    println!(rt; "half taps at step {}: {}", f64_to_usize(step), span.half)
 }
 
-fn looped() {
-    io::write_all(1, b"loop (10, 20) with last 15: end ");
+fn looped(rt: &impl Print) -> io::Result<()> {
     let l = loop_at(10, 20, 15, 44100.0);
-    io::print_decimal(1, l.end as u64);
-    io::write_all(1, b", size ");
-    io::print_decimal(1, f64_to_usize(l.size) as u64);
-    end_line();
+    println!(rt;
+        "loop (10, 20) with last 15: end {}, size {}",
+        l.end,
+        f64_to_usize(l.size)
+    )
 }

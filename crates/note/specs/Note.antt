@@ -1,5 +1,5 @@
 -- A note from the inputs of its rising gate. Definitions only.
-use Rattle.std.specs.Prelude.{ℕ, Bool, false, ◌&&◌, cond, Float}
+use Rattle.std.specs.Prelude.{ℕ, false, ◌&&◌, cond, Float, None, Option, Some}
 use Rattle.std.specs.Float.{binary32}
 use Rattle.std.specs.Float.Ieee.{lt, of_bits, to_bits, to_unsigned}
 use Rattle.std.specs.Float.Ieee.Scale.{finite}
@@ -39,8 +39,9 @@ unfoldable pub velocity_of : Float → ℕ
 velocity_of v = cond (finite v) (key_of (v ⊗ f127)) 100
 
 -- the kernel that the quality input names; without one, and by any other value, the sinc
-unfoldable pub kernel_of : Bool → Float → Interp
-kernel_of given q = cond given (by_quality q Sinc) Sinc
+unfoldable pub kernel_of : Option Float → Interp
+kernel_of None = Sinc
+kernel_of (Some q) = by_quality q Sinc
 
 -- the note of a rising gate
 unfoldable pub note_state : Strike → NoteState
@@ -50,6 +51,6 @@ note_state k = record {
   note_f = note_of k.freq f60;
   on_time = k.at;
   seed = to_bits binary32 k.seed;
-  interp = kernel_of k.has_quality k.quality;
+  interp = kernel_of k.quality;
   choke_released = false;
 }

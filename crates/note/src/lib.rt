@@ -3,7 +3,7 @@
 #![tactic(auto)]
 
 ghost use Rattle.std.specs.Prelude.{◌≡◌};
-ghost use Rattle.note.specs.Choice.{chosen_list};
+ghost use Rattle.note.specs.Choice.{chosen_list, add_region};
 ghost use Rattle.note.specs.Note.{note_of, key_of, velocity_of, kernel_of, note_state};
 
 pub mod choice;
@@ -15,7 +15,8 @@ use exact::order::{bits_f32, clamp_f32, is_finite_f32};
 use interp::Interp;
 use session::used;
 
-// The note that a voice plays.
+// The note that a voice plays. What a player's start reads of it stands in `player::start::Note` again: with that as a part, choosing would
+// stand on players, envelopes and filters.
 #[derive(Clone, Copy)]
 pub struct NoteState {
     pub note: u8,
@@ -34,17 +35,21 @@ pub struct Strike {
     pub freq: f32,
     pub vel: f32,
     pub seed: f32,
-    pub has_quality: bool,
-    pub quality: f32,
+    pub quality: Option<f32>,
     pub at: u64,
 }
 
-// Regions of the program, in order.
+// Regions of the program, in order: an array and its count, as memory is fixed, and `Copy`, which the kit's list is not, for the folds.
 #[derive(Clone, Copy)]
 pub struct Chosen {
     pub regions: [u32; 256],
     pub count: usize,
 }
+
+const NONE_CHOSEN: Chosen = Chosen {
+    regions: [0; 256],
+    count: 0,
+};
 
 impl Chosen {
     // The regions in use, in order.
@@ -52,6 +57,18 @@ impl Chosen {
         ensures { result.now ≡ chosen_list self.now }
     {
         &self.regions[..used::<256>(self.count)]
+    }
+
+    // One region more, where there is room.
+    #[tactic(auto, unfolding(crate::specs::Choice::add_region))]
+    fn with(mut self, i: u32) -> Chosen
+        ensures { result ≡ add_region i self }
+    {
+        if self.count < 256 {
+            self.regions[self.count] = i;
+            self.count += 1;
+        }
+        self
     }
 }
 
@@ -89,14 +106,10 @@ fn velocity_of(v: f32) -> u8
 
 // The kernel that the quality input, where there is one, names.
 #[tactic(auto, unfolding(crate::specs::Note::kernel_of))]
-fn kernel_of(given: bool, q: f32) -> Interp
-    ensures { result ≡ kernel_of given q }
+fn kernel_of(quality: Option<f32>) -> Interp
+    ensures { result ≡ kernel_of quality }
 {
-    if given {
-        Interp::from_quality(q, Interp::Sinc)
-    } else {
-        Interp::Sinc
-    }
+    quality.map_or(Interp::Sinc, |q| Interp::from_quality(q, Interp::Sinc))
 }
 
 // The note of a rising gate.
@@ -111,7 +124,7 @@ pub fn note_state(k: Strike) -> NoteState
         note_f,
         on_time: k.at,
         seed: bits_f32(k.seed),
-        interp: kernel_of(k.has_quality, k.quality),
+        interp: kernel_of(k.quality),
         choke_released: false,
     }
 }

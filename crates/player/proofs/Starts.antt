@@ -17,10 +17,9 @@ use Rattle.program.specs.declared.region.LoopPoints.{LoopPoints}
 use Rattle.program.specs.declared.region.Region.{Region}
 use Rattle.program.specs.declared.sample.Sample.{Sample}
 use Rattle.player.specs.Bounds.{LoopOk, PlayerOk}
-use Rattle.player.specs.Start.{pcm_of, last_of, loop_at, has_loop, loop_of, hot_at, cold_at, started_player}
+use Rattle.player.specs.Start.{sample_for, frames_of, last_of, loop_at, has_loop, loop_of, hot_at, cold_at, started_player}
 use Rattle.player.specs.declared.start.Event.{Event}
 use Rattle.player.specs.declared.start.Note.{Note}
-use Rattle.player.specs.declared.start.Pcm.{Pcm}
 use Rattle.player.proofs.Pitches.{at_first, pitched-ok}
 use Rattle.player.proofs.Within.{round-within}
 
@@ -29,20 +28,19 @@ unfolding last_of
 last-below None frames h = omega arith
 last-below (Some e) frames h = omega arith
 
-few-frames : (i : Option ℕ) (s : Sample) (rate : Float) → s.frames ≤ 4294967295 → (pcm_of i s rate).frames ≤ 4294967295
-unfolding pcm_of
-few-frames None s rate h = omega arith
-few-frames (Some i) s rate h = h
+few-frames : (i : Option ℕ) (s : Sample) → s.frames ≤ 4294967295 → frames_of (sample_for i s) ≤ 4294967295
+few-frames None s h = omega arith
+few-frames (Some i) s h = h
 
-loop-sound : (mode : LoopMode) (points : Option LoopPoints) (pcm : Pcm) (last : ℕ) → T (loop_in_order points) → pcm.frames ≤ 4294967295 → LoopOk (loop_of mode points pcm last)
+loop-sound : (mode : LoopMode) (points : Option LoopPoints) (frames : ℕ) (rate : Float) (last : ℕ) → T (loop_in_order points) → frames ≤ 4294967295 → LoopOk (loop_of mode points frames rate last)
 unfolding loop_of loop_at
-loop-sound mode None pcm last h f = tt
-loop-sound mode (Some l) pcm last h f = go (has_loop mode && ltb l.end pcm.frames) (λ (t : T (has_loop mode && ltb l.end pcm.frames)). ltb→lt l.end pcm.frames (and_r (has_loop mode) (ltb l.end pcm.frames) t))
+loop-sound mode None frames rate last h f = tt
+loop-sound mode (Some l) frames rate last h f = go (has_loop mode && ltb l.end frames) (λ (t : T (has_loop mode && ltb l.end frames)). ltb→lt l.end frames (and_r (has_loop mode) (ltb l.end frames) t))
   where
-    go : (x : Bool) → (T x → l.end < pcm.frames) → LoopOk (cond x (Some (loop_at l.start l.end last pcm.rate)) None)
+    go : (x : Bool) → (T x → l.end < frames) → LoopOk (cond x (Some (loop_at l.start l.end last rate)) None)
     go true g =
         let o : l.start ≤ l.end = leb→le l.start l.end h in
-        let k : l.end < pcm.frames = g tt in
+        let k : l.end < frames = g tt in
         (omega arith, omega arith, refl)
     go false g = tt
 
@@ -57,13 +55,13 @@ pub started-sound : (x : Region) (s : Sample) (c : Option Float) (n : Note) (e :
     → PlayerOk (started_player x s c n e rate)
 unfolding started_player hot_at cold_at
 started-sound x s c n e rate h f o =
-    let k = few-frames x.sample s rate f in
+    let k = few-frames x.sample s f in
     record {
       cold = pitched-ok _ _ _ (record {
         step = at_first;
         half = half-small _;
         last = last-below x.play.end_frames _ k;
-        lp = loop-sound x.play.loop_mode x.play.loop_points (pcm_of x.sample s rate) _ h k;
+        lp = loop-sound x.play.loop_mode x.play.loop_points _ _ _ h k;
         filters = built-count (run x n.note n.vel rate);
       });
       stages = built-stages x n.note n.vel rate;

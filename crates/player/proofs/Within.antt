@@ -1,6 +1,6 @@
 -- Floats from 0 to 2 ^ 33, and what zero and a plus sign make of them. Assumes nothing.
 use mathlib.Core.Path.{◌≡◌}
-use mathlib.Core.Bool.{Bool, true, false, ◌||◌}
+use mathlib.Core.Bool.{Bool, true, false, not, ◌||◌}
 use Prim.Native.Nat.{ℕ, ◌*◌, ◌≤◌, ◌<◌}
 use native.Mathlib.Omega.{arith}
 use lib.Dec.{T, eqb, eqb→eq}
@@ -25,3 +25,7 @@ zero_of m e t =
 pub left : (x y : Bool) → T x → T (x || y)
 left true y t = tt
 left false y t = elim t [ ]
+
+pub turned : (a b : Bool) → a ≡ not b → not a ≡ b
+turned a true e = rw e
+turned a false e = rw e

@@ -1,5 +1,5 @@
 -- A player at its start: a region, a note and a rate. Definitions only.
-use Rattle.std.specs.Prelude.{Bool, true, false, ◌&&◌, cond, ℕ, ◌+◌, ◌-◌, min, max, ltb, eqb, Float, replicate, None, Option, Some, unwrap_or}
+use Rattle.std.specs.Prelude.{Bool, true, false, ◌&&◌, cond, ℕ, ◌+◌, ◌-◌, min, max, ltb, eqb, Float, replicate, None, Option, Some, is_none}
 use Rattle.std.specs.Float.{binary32, binary64}
 use Rattle.std.specs.Float.Ieee.{div, lt, of_bits, of_int, to_unsigned}
 use Rattle.elementary.specs.Functions.{pow10_of}
@@ -24,7 +24,7 @@ use Rattle.program.specs.declared.region.Pitch.{Pitch}
 use Rattle.program.specs.declared.region.Playback.{Playback}
 use Rattle.program.specs.declared.region.Region.{Region}
 use Rattle.program.specs.declared.region.Trigger.{Trigger}
-use Rattle.program.specs.declared.region.Trigger.TheVariants.{Attack, Release, ReleaseKey, First, Legato}
+use Rattle.program.specs.Region.{is_release}
 use Rattle.program.specs.declared.sample.Sample.{Sample}
 use Rattle.player.specs.declared.LoopRt.{LoopRt}
 use Rattle.player.specs.declared.Hot.{Hot}
@@ -32,13 +32,36 @@ use Rattle.player.specs.declared.Cold.{Cold}
 use Rattle.player.specs.declared.Player.{Player}
 use Rattle.player.specs.declared.start.Event.{Event}
 use Rattle.player.specs.declared.start.Note.{Note}
-use Rattle.player.specs.declared.start.Pcm.{Pcm}
+use Rattle.player.specs.declared.start.Cause.{Cause}
+use Rattle.player.specs.declared.start.Cause.TheVariants.{NoteOn, Release}
 use Rattle.player.specs.Pitch.{pitched}
 
--- the sample of a region: none, which counts as 4,294,967,295 frames at the engine's rate, or its own
-unfoldable pub pcm_of : Option ℕ → Sample → Float → Pcm
-pcm_of None s rate = record { silent = true; frames = 0xffff_ffff; rate = rate; stereo = false }
-pcm_of (Some i) s rate = record { silent = false; frames = s.frames; rate = s.rate; stereo = eqb s.channels 2 }
+-- what a note-on is, and for how long the note was held whose end is a start's cause
+abbrev pub is_note_on : Cause → Bool
+is_note_on NoteOn = true
+is_note_on (Release s) = false
+
+abbrev pub held_secs : Cause → Float
+held_secs NoteOn = f0
+held_secs (Release s) = s
+
+-- the sample of a region, if it has one
+abbrev pub sample_for : Option ℕ → Sample → Option Sample
+sample_for None s = None
+sample_for (Some i) s = Some s
+
+-- silence counts as 4,294,967,295 frames at the engine's rate
+abbrev pub frames_of : Option Sample → ℕ
+frames_of None = 0xffff_ffff
+frames_of (Some s) = s.frames
+
+abbrev pub rate_of : Option Sample → Float → Float
+rate_of None rate = rate
+rate_of (Some s) rate = s.rate
+
+abbrev pub is_stereo : Option Sample → Bool
+is_stereo None = false
+is_stereo (Some s) = eqb s.channels 2
 
 -- the region's end, but at most the sample's last frame
 unfoldable pub last_of : Option ℕ → ℕ → ℕ
@@ -57,8 +80,8 @@ fade_frames rate a = min (to_unsigned 32 (integral binary32 ties_to_away (crossf
 unfoldable pub loop_at : ℕ → ℕ → ℕ → Float → LoopRt
 loop_at a b last rate =
     let end = max (min b last) a in
-    let xf = fade_frames rate a in
-    record { start = a; end = end; size = double (end + 1 - a); xf = xf; xf_out_start = end + 1 - xf }
+    let n = fade_frames rate a in
+    record { start = a; end = end; size = double (end + 1 - a); fade = cond (eqb n 0) None (Some (record { frames = n; start = end + 1 - n })) }
 
 abbrev pub has_loop : LoopMode → Bool
 has_loop NoLoop = false
@@ -67,28 +90,21 @@ has_loop Continuous = true
 has_loop Sustain = true
 
 -- a loop (a, b) counts only if b is below the frame count
-unfoldable pub loop_of : LoopMode → Option LoopPoints → Pcm → ℕ → Option LoopRt
-loop_of mode None pcm last = None
-loop_of mode (Some l) pcm last =
-    cond (has_loop mode && ltb l.end pcm.frames) (Some (loop_at l.start l.end last pcm.rate)) None
+unfoldable pub loop_of : LoopMode → Option LoopPoints → ℕ → Float → ℕ → Option LoopRt
+loop_of mode None frames rate last = None
+loop_of mode (Some l) frames rate last =
+    cond (has_loop mode && ltb l.end frames) (Some (loop_at l.start l.end last rate)) None
 
 -- the volume with its random part; the draw's salt is 65,536 and the region's number
 unfoldable pub drawn_volume : Level → ℕ → ℕ → ℕ → Float
 drawn_volume v seed serial region =
     cond (lt f0 v.amp_random_db) (v.volume_db ⊕ v.amp_random_db ⊗ drawn seed serial (0x1_0000 + region)) v.volume_db
 
-abbrev pub on_release : Trigger → Bool
-on_release Attack = false
-on_release Release = true
-on_release ReleaseKey = true
-on_release First = false
-on_release Legato = false
-
 -- a release is quieter the longer its note was held
 unfoldable pub volume_of : Level → Trigger → Note → Event → Float
 volume_of v t n e =
     let x = drawn_volume v n.seed e.serial e.region in
-    cond (on_release t) (x ⊖ v.rt_decay_db_per_s ⊗ e.held_secs) x
+    cond (is_release t) (x ⊖ v.rt_decay_db_per_s ⊗ held_secs e.cause) x
 
 -- 20.0
 abbrev pub f20 : Float
@@ -96,6 +112,10 @@ f20 = of_bits binary32 0x41a0_0000
 
 unfoldable pub gain_of : Level → Trigger → Option Float → Note → Event → Float
 gain_of v t c n e = pow10_of (volume_of v t n e ⊘ f20) ⊗ velocity_gain v.amp_veltrack c n.vel ⊗ crossfade_gain v.xf_vel n.vel
+
+-- a mono sample's width is not asked
+abbrev pub width_of : Level → Option Sample → Option Float
+width_of v pcm = cond (is_stereo pcm) (Some v.width) None
 
 -- silence that plays once: its envelope runs freely
 abbrev pub is_one_shot : Bool → LoopMode → Bool
@@ -114,25 +134,22 @@ hot_at p ampeg silent rate = record {
 }
 
 -- what frames read, before the note sets the step
-unfoldable pub cold_at : Pitch → Playback → Choke → Float → Pcm → Interp → Float → Matrix → ℕ → Float → Cold
+unfoldable pub cold_at : Pitch → Playback → Choke → Float → Option Sample → Interp → Float → Matrix → ℕ → Float → Cold
 cold_at x p k release pcm kind gain m n rate =
-    let last = last_of p.end_frames pcm.frames in
+    let last = last_of p.end_frames (frames_of pcm) in
     record {
       step = first;
       span = span_for (of_bits binary64 0x3ff0_0000_0000_0000);
       last = last;
       interp = kind;
-      stereo = pcm.stereo;
-      silent = pcm.silent;
-      lp = loop_of p.loop_mode p.loop_points pcm last;
+      stereo = is_stereo pcm;
+      silent = is_none pcm;
+      lp = loop_of p.loop_mode p.loop_points (frames_of pcm) (rate_of pcm rate) last;
       loop_mode = p.loop_mode;
       n_filters = n;
       gain = gain;
-      ll = m.ll;
-      rl = m.rl;
-      lr = m.lr;
-      rr = m.rr;
-      rate_ratio = div binary64 pcm.rate rate;
+      matrix = m;
+      rate_ratio = div binary64 (rate_of pcm rate) rate;
       base_cents = x.tune_cents ⊕ f100 ⊗ of_int binary32 x.transpose;
       keytrack = x.pitch_keytrack;
       keycenter = single x.pitch_keycenter;
@@ -143,20 +160,25 @@ cold_at x p k release pcm kind gain m n rate =
       release_time = release;
     }
 
+-- 4,294,967,295 names no sample
+abbrev pub named : Option ℕ → Option ℕ
+named None = None
+named (Some i) = cond (eqb i 0xffff_ffff) None (Some i)
+
 -- The player of a region at a note's event. Its bend is 0 until the next block.
 unfoldable pub started_player : Region → Sample → Option Float → Note → Event → Float → Player
 started_player x s c n e rate =
-    let pcm = pcm_of x.sample s rate in
+    let pcm = sample_for x.sample s in
     let filters = six_of (run x n.note n.vel rate) in
     let gain = gain_of x.level x.chosen.trigger c n e in
-    let m = pan_matrix x.level.pan x.level.width pcm.stereo in
+    let m = pan_matrix x.level.pan (width_of x.level pcm) in
     record {
-      hot = hot_at x.play x.ampeg pcm.silent rate;
+      hot = hot_at x.play x.ampeg (is_none pcm) rate;
       cold = pitched (cold_at x.pitch x.play x.choke x.ampeg.release pcm n.interp gain m filters.count rate) n.note_f f0;
       slots = filters.slots;
       states = replicate 72 f0;
       slot = e.slot;
       region = e.region;
-      sample = unwrap_or x.sample 0xffff_ffff;
-      on_note = e.on_note;
+      sample = named x.sample;
+      on_note = is_note_on e.cause;
     }

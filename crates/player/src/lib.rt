@@ -7,19 +7,25 @@ pub mod start;
 
 use envelope::Env;
 use filter::FilterShape;
+use gain::Matrix;
 use interp::Interp;
 use interp::sinc::SincSpan;
 use program::region::{LoopMode, OffMode};
 
-// A loop in frames of the sample, its last frame included. The fade into its start takes the last `xf` frames, from
-// `xf_out_start` on.
+// The fade into a loop's start: how many frames it takes, and the frame where they begin.
+#[derive(Clone, Copy, PartialEq, Eq)]
+pub struct Fade {
+    pub frames: u32,
+    pub start: u32,
+}
+
+// A loop in frames of the sample, its last frame included. The fade takes its last frames.
 #[derive(Clone, Copy)]
 pub struct LoopRt {
     pub start: u32,
     pub end: u32,
     pub size: f64,
-    pub xf: u32,
-    pub xf_out_start: u32,
+    pub fade: Option<Fade>,
 }
 
 #[derive(Clone, Copy)]
@@ -39,17 +45,14 @@ pub struct Cold {
     pub last: u32,
     pub interp: Interp,
     pub stereo: bool,
-    // There is no sample.
+    // There is no sample. A flag, because the host hands a player in with `last` and `lp`, and both are tested of a silent one too.
     pub silent: bool,
     pub lp: Option<LoopRt>,
     pub loop_mode: LoopMode,
+    // How many of the player's slots are in use. It stands here and they do not, so that a new pitch copies no coefficients.
     pub n_filters: u8,
     pub gain: f32,
-    // The matrix: out_l = ll l + rl r, out_r = lr l + rr r.
-    pub ll: f32,
-    pub rl: f32,
-    pub lr: f32,
-    pub rr: f32,
+    pub matrix: Matrix,
     // File rate / engine rate.
     pub rate_ratio: f64,
     // The region's pitch offset in cents, without the note and the bend.
@@ -68,9 +71,10 @@ pub struct Player {
     pub hot: Hot,
     pub cold: Cold,
     pub slots: [FilterShape; 6],
+    // Twelve places a slot, as the filters' `chain` takes them.
     pub states: [f32; 72],
     pub slot: u32,
     pub region: u32,
-    pub sample: u32,
+    pub sample: Option<u32>,
     pub on_note: bool,
 }

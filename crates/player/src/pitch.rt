@@ -18,17 +18,15 @@ fn bend_cents(cold: Cold, bend: f32) -> f32
     }
 }
 
-// A step within 0 to 4,096.
+// A step within 0 to 4,096. No `clamp`: one that is not a number is 0.
 fn held_step(s: f64) -> f64
     ensures { result ≡ held_step s }
 {
     if s >= 0.0 {
-        if s > 4096.0 {
-            return 4096.0;
-        }
-        return s;
+        if s > 4096.0 { 4096.0 } else { s }
+    } else {
+        0.0
     }
-    0.0
 }
 
 // The step at a note and a bend.
@@ -48,10 +46,7 @@ pub fn set_pitch(cold: Cold, note_f: f32, bend: f32) -> Cold
     let step = step_of(cold, note_f, bend);
     if step != cold.step {
         let span = SincSpan::for_step(step);
-        let mut c = cold;
-        c.step = step;
-        c.span = span;
-        return c;
+        return Cold { step, span, ..cold };
     }
     cold
 }

@@ -1,10 +1,10 @@
 // A player at its start: a region, a note and a rate.
-ghost use Rattle.std.specs.Prelude.{◌≡◌, ◌≤◌, ◌<◌, min, max, T};
+ghost use Rattle.std.specs.Prelude.{◌≡◌, ◌≤◌, ◌<◌, T};
 ghost use Rattle.program.specs.Valid.{loop_in_order};
-ghost use Rattle.player.specs.Start.{pcm_of, last_of, fade_frames, loop_at, has_loop, loop_of, drawn_volume, on_release, volume_of, gain_of, is_one_shot, hot_at, cold_at, started_player};
+ghost use Rattle.player.specs.Start.{is_note_on, held_secs, sample_for, named, width_of, frames_of, rate_of, is_stereo, last_of, fade_frames, loop_at, has_loop, loop_of, drawn_volume, volume_of, gain_of, is_one_shot, hot_at, cold_at, started_player};
 
 use super::pitch::set_pitch;
-use super::{Cold, Hot, LoopRt, Player};
+use super::{Cold, Fade, Hot, LoopRt, Player};
 use elementary::power::pow10;
 use envelope::{Env, secs_to_samples};
 use exact::cast::{f32_to_u32, i32_to_f32, u32_to_f32};
@@ -30,109 +30,130 @@ pub struct Note {
     pub interp: Interp,
 }
 
+// What starts a player: a note-on, or the end of a note that was held this long.
+#[derive(Clone, Copy)]
+pub enum Cause {
+    NoteOn,
+    Release { held_secs: f32 },
+}
+
+impl Cause {
+    fn is_note_on(self) -> bool
+        ensures { result ≡ is_note_on self }
+    {
+        matches!(self, Cause::NoteOn)
+    }
+
+    // A region that fires on a release has its decay from the time that its note was held; at a note-on that is none.
+    fn held_secs(self) -> f32
+        ensures { result ≡ held_secs self }
+    {
+        match self {
+            Cause::NoteOn => 0.0,
+            Cause::Release { held_secs } => held_secs,
+        }
+    }
+}
+
 #[derive(Clone, Copy)]
 pub struct Event {
     pub slot: u32,
     pub region: u32,
     pub serial: u64,
-    pub on_note: bool,
-    pub held_secs: f32,
+    pub cause: Cause,
 }
 
-// The sample that a region plays, or none.
-#[derive(Clone, Copy)]
-pub struct Pcm {
-    pub silent: bool,
-    pub frames: u32,
-    pub rate: f32,
-    pub stereo: bool,
-}
-
-#[tactic(auto, unfolding(crate::specs::Start::pcm_of))]
-fn pcm_of(index: Option<u32>, s: Sample, sr: f32) -> Pcm
-    ensures { result ≡ pcm_of index s sr }
+// The sample of a region, if it has one.
+fn sample_for(index: Option<u32>, s: Sample) -> Option<Sample>
+    ensures { result ≡ sample_for index s }
 {
-    match index {
-        None => Pcm {
-            silent: true,
-            frames: 0xffff_ffff,
-            rate: sr,
-            stereo: false,
-        },
-        Some(_) => Pcm {
-            silent: false,
-            frames: s.frames,
-            rate: s.rate,
-            stereo: s.channels == 2,
-        },
-    }
+    index.map(|_| s)
 }
 
-fn lesser(a: u32, b: u32) -> u32
-    ensures { result ≡ min a b }
+// The number that a player keeps: 4,294,967,295 names no sample.
+fn named(index: Option<u32>) -> Option<u32>
+    ensures { result ≡ named index }
 {
-    if a < b { a } else { b }
+    index.filter(|i| *i != SILENCE)
+}
+
+// Silence counts as 4,294,967,295 frames at the engine's rate.
+fn frames_of(pcm: Option<Sample>) -> u32
+    ensures { result ≡ frames_of pcm }
+{
+    pcm.map_or(0xffff_ffff, |s| s.frames)
+}
+
+fn rate_of(pcm: Option<Sample>, sr: f32) -> f32
+    ensures { result ≡ rate_of pcm sr }
+{
+    pcm.map_or(sr, |s| s.rate)
+}
+
+fn is_stereo(pcm: Option<Sample>) -> bool
+    ensures { result ≡ is_stereo pcm }
+{
+    pcm.is_some_and(|s| s.channels == 2)
 }
 
 // The frame at which the sample ends.
+#[tactic(auto, unfolding(crate::specs::Start::last_of))]
 fn last_of(end: Option<u32>, frames: u32) -> u32
     ensures { result ≡ last_of end frames }
 {
-    let top = frames - lesser(frames, 1);
-    match end {
-        None => top,
-        Some(e) => lesser(e, top),
-    }
+    let top = frames.saturating_sub(1);
+    end.map_or(top, |e| e.min(top))
 }
 
 // How many frames a loop's fade takes.
+#[tactic(auto, unfolding(crate::specs::Start::fade_frames))]
 fn fade_frames(rate: f32, start: u32) -> u32
     ensures { result ≡ fade_frames rate start }
 {
-    lesser(f32_to_u32(round_f32(1e-3 * rate)), start)
+    f32_to_u32(round_f32(1e-3 * rate)).min(start)
 }
 
-fn greater(a: u32, b: u32) -> u32
-    ensures { result ≡ max a b }
-{
-    if a < b { b } else { a }
-}
-
+#[tactic(auto, unfolding(crate::specs::Start::loop_at, crate::specs::Start::fade_frames))]
 pub fn loop_at(start: u32, end: u32, last: u32, rate: f32) -> LoopRt
     requires { (start ≤ end) × (end < 4294967295) }
     ensures { result ≡ loop_at start end last rate }
 {
-    let e = greater(lesser(end, last), start);
-    let xf = fade_frames(rate, start);
+    let end = end.min(last).max(start);
+    let frames = fade_frames(rate, start);
+    let fade = Fade {
+        frames,
+        start: end + 1 - frames,
+    };
     LoopRt {
         start,
-        end: e,
-        size: (e + 1 - start) as f64,
-        xf,
-        xf_out_start: e + 1 - xf,
+        end,
+        size: (end + 1 - start) as f64,
+        fade: (frames != 0).then_some(fade),
     }
 }
 
 fn has_loop(mode: LoopMode) -> bool
     ensures { result ≡ has_loop mode }
 {
-    match mode {
-        LoopMode::NoLoop => false,
-        LoopMode::OneShot => false,
-        LoopMode::Continuous => true,
-        LoopMode::Sustain => true,
-    }
+    matches!(mode, LoopMode::Continuous | LoopMode::Sustain)
 }
 
-// A loop counts only if its end is a frame of the sample.
+// A loop counts only if its end is a frame of the sample. The points may be any, as region_at gives them of any words: so their order
+// is asked here, and is no field of theirs.
 #[tactic(auto, unfolding(crate::specs::Start::loop_of))]
-fn loop_of(mode: LoopMode, points: Option<LoopPoints>, pcm: Pcm, last: u32) -> Option<LoopRt>
+fn loop_of(
+    mode: LoopMode,
+    points: Option<LoopPoints>,
+    frames: u32,
+    rate: f32,
+    last: u32,
+) -> Option<LoopRt>
     requires { T (loop_in_order points) }
-    ensures { result ≡ loop_of mode points pcm last }
+    ensures { result ≡ loop_of mode points frames rate last }
 {
     let p = points?;
-    if has_loop(mode) && p.end < pcm.frames {
-        Some(loop_at(p.start, p.end, last, pcm.rate))
+    if has_loop(mode) && p.end < frames {
+        Some(loop_at(p.start, p.end, last, rate))
     } else {
         None
     }
@@ -149,25 +170,15 @@ fn drawn_volume(level: Level, seed: u32, serial: u64, region: u32) -> f32
     level.volume_db
 }
 
-fn on_release(t: Trigger) -> bool
-    ensures { result ≡ on_release t }
-{
-    match t {
-        Trigger::Attack => false,
-        Trigger::Release => true,
-        Trigger::ReleaseKey => true,
-        Trigger::First => false,
-        Trigger::Legato => false,
-    }
-}
-
-// A release is quieter the longer its note was held.
+// A release is quieter the longer its note was held. The region's trigger decides, as in the Rust, whatever the event. The three
+// functions of a start's gain are called once each: of a struct for them each clause would only name the parts again.
+#[tactic(auto, unfolding(crate::specs::Start::volume_of))]
 fn volume_of(level: Level, trigger: Trigger, note: Note, event: Event) -> f32
     ensures { result ≡ volume_of level trigger note event }
 {
     let v = drawn_volume(level, note.seed, event.serial, event.region);
-    if on_release(trigger) {
-        return v - level.rt_decay_db_per_s * event.held_secs;
+    if trigger.is_release() {
+        return v - level.rt_decay_db_per_s * event.cause.held_secs();
     }
     v
 }
@@ -180,15 +191,17 @@ fn gain_of(level: Level, trigger: Trigger, curve: Option<f32>, note: Note, event
     pow10(v / 20.0) * velocity_gain(level.amp_veltrack, curve, note.vel) * xf_gain(xf, note.vel)
 }
 
+// A mono sample's width is not asked.
+fn width_of(level: Level, pcm: Option<Sample>) -> Option<f32>
+    ensures { result ≡ width_of level pcm }
+{
+    is_stereo(pcm).then_some(level.width)
+}
+
 fn is_one_shot(silent: bool, mode: LoopMode) -> bool
     ensures { result ≡ is_one_shot silent mode }
 {
-    match mode {
-        LoopMode::NoLoop => false,
-        LoopMode::OneShot => silent,
-        LoopMode::Continuous => false,
-        LoopMode::Sustain => false,
-    }
+    silent && matches!(mode, LoopMode::OneShot)
 }
 
 fn hot_at(play: Playback, ampeg: Envelope, silent: bool, sr: f32) -> Hot
@@ -213,42 +226,41 @@ fn cold_at(
     play: Playback,
     choke: Choke,
     release: f32,
-    pcm: Pcm,
+    pcm: Option<Sample>,
     interp: Interp,
     gain: f32,
-    m: Matrix,
+    matrix: Matrix,
     n_filters: u8,
     sr: f32,
 ) -> Cold
     requires { T (loop_in_order play.loop_points) }
-    ensures { result ≡ cold_at pitch play choke release pcm interp gain m n_filters sr }
+    ensures { result ≡ cold_at pitch play choke release pcm interp gain matrix n_filters sr }
 {
     let mode = play.loop_mode;
     let points = play.loop_points;
     let end = play.end_frames;
     let off_mode = choke.off_mode;
-    let last = last_of(end, pcm.frames);
-    let lp = loop_of(mode, points, pcm, last);
+    let frames = frames_of(pcm);
+    let pcm_rate = rate_of(pcm, sr);
+    let last = last_of(end, frames);
+    let lp = loop_of(mode, points, frames, pcm_rate, last);
     let span = SincSpan::for_step(1.0);
     let transposed = i32_to_f32(pitch.transpose);
     let keycenter = u32_to_f32(pitch.pitch_keycenter as u32);
-    let file_rate = widen(pcm.rate);
+    let file_rate = widen(pcm_rate);
     let rate = widen(sr);
     Cold {
         step: 0.0,
         span,
         last,
         interp,
-        stereo: pcm.stereo,
-        silent: pcm.silent,
+        stereo: is_stereo(pcm),
+        silent: pcm.is_none(),
         lp,
         loop_mode: mode,
         n_filters,
         gain,
-        ll: m.ll,
-        rl: m.rl,
-        lr: m.lr,
-        rr: m.rr,
+        matrix,
         rate_ratio: file_rate / rate,
         base_cents: pitch.tune_cents + 100.0 * transposed,
         keytrack: pitch.pitch_keytrack,
@@ -283,10 +295,10 @@ pub fn start(
     let interp = note.interp;
     let f = build_filters(region, note.note, note.vel, sr);
     let slots = f.slots;
-    let pcm = pcm_of(region.sample, sample, sr);
-    let hot = hot_at(play, ampeg, pcm.silent, sr);
+    let pcm = sample_for(region.sample, sample);
+    let hot = hot_at(play, ampeg, pcm.is_none(), sr);
     let gain = gain_of(level, trigger, curve, note, event);
-    let m = pan_matrix(level.pan, level.width, pcm.stereo);
+    let matrix = pan_matrix(level.pan, width_of(level, pcm));
     let base = cold_at(
         pitch,
         play,
@@ -295,7 +307,7 @@ pub fn start(
         pcm,
         interp,
         gain,
-        m,
+        matrix,
         f.count,
         sr,
     );
@@ -308,7 +320,7 @@ pub fn start(
         states,
         slot: event.slot,
         region: event.region,
-        sample: region.sample.unwrap_or(SILENCE),
-        on_note: event.on_note,
+        sample: named(region.sample),
+        on_note: event.cause.is_note_on(),
     }
 }

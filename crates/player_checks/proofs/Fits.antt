@@ -29,7 +29,7 @@ use Rattle.player.specs.declared.LoopRt.{LoopRt}
 use Rattle.player.specs.declared.Player.{Player}
 use Rattle.players.specs.declared.Players.{Players}
 use Rattle.players.specs.Seats.{PlayersOk, sounding, no_player}
-use Rattle.player_checks.specs.Sound.{slot_fits, stages_over, is_double, loop_wrong, position_out, step_out, frame_count, loop_past, own_tests, sample_tests, player_fits, sample_fits, players_fit, samples_fit}
+use Rattle.player_checks.specs.Sound.{slot_fits, stages_over, is_double, frames_in, loop_wrong, position_out, step_out, frames_named, frame_count, loop_past, own_tests, sample_tests, player_fits, sample_fits, players_fit, samples_fit}
 use Rattle.program.proofs.Checks.{every-at}
 use Rattle.program.proofs.Checks.{and-true}
 use Rattle.players.proofs.Passing.{each_at}
@@ -75,7 +75,7 @@ told-double n x h = sym (ap (λ (t : Bool). eq x (double n) && t) h ∙ and-true
 
 -- ---- the test of a loop
 abbrev loop_tests : LoopRt → List Bool
-loop_tests l = leb l.start l.end ∷ is_double (l.end + 1 - l.start) l.size ∷ leb l.xf l.start ∷ []
+loop_tests l = leb l.start l.end ∷ is_double (l.end + 1 - l.start) l.size ∷ leb (frames_in l.fade) l.start ∷ []
 
 -- ---- a player
 
@@ -111,16 +111,16 @@ frames-fit ss h j = by-case (leb (j * 4 + 4) (length ss))
     by-case true = omega (arith, h (j * 4 + 2))
     by-case false = omega arith
 
-count_fits : (ss : List ℕ) (p : Player) → (sample_at ss p.sample).frames ≤ 4294967295 → frame_count ss p ≤ 4294967295
+count_fits : (ss : List ℕ) (p : Player) → ((j : ℕ) → (sample_at ss j).frames ≤ 4294967295) → frame_count ss p ≤ 4294967295
 unfolding frame_count
-count_fits ss p h = by-case (eqb p.sample 0xffff_ffff)
+count_fits ss p h = by-case p.sample
   where
-    by-case : (t : Bool) → cond t 0xffff_ffff (sample_at ss p.sample).frames ≤ 4294967295
-    by-case true = omega arith
-    by-case false = h
+    by-case : (m : Option ℕ) → frames_named ss m ≤ 4294967295
+    by-case None = omega arith
+    by-case (Some i) = h i
 
 -- a player that passes
-pub player-ok : (b : BoundProgram) (ss : List ℕ) (p : Player) → (sample_at ss p.sample).frames ≤ 4294967295 → player_fits b p ≡ true → sample_fits ss p ≡ true → PlayerOk p
+pub player-ok : (b : BoundProgram) (ss : List ℕ) (p : Player) → ((j : ℕ) → (sample_at ss j).frames ≤ 4294967295) → player_fits b p ≡ true → sample_fits ss p ≡ true → PlayerOk p
 unfolding player_fits sample_fits position_out step_out stages_over
 player-ok b ss p words own beside =
     let at : (i : ℕ) → get_or (own_tests b p) i true ≡ true = λ i. every-at (own_tests b p) i own in
@@ -154,5 +154,5 @@ fit-ok b ss ps few size words own beside = record {
       ap (λ (m : ℕ). get_or (take m ps.players) k no_player) (used-small 32 ps.count few) ∙ get_or-take ps.count ps.players k no_player h in
       let i : k < length (sounding ps) = rw n h in
       let q = get_or (sounding ps) k no_player in
-      subst PlayerOk at (player-ok b ss q (words q.sample) (each_at (player_fits b) (sounding ps) k no_player own i) (each_at (sample_fits ss) (sounding ps) k no_player beside i));
+      subst PlayerOk at (player-ok b ss q words (each_at (player_fits b) (sounding ps) k no_player own i) (each_at (sample_fits ss) (sounding ps) k no_player beside i));
 }

@@ -1,5 +1,6 @@
 -- What 01's test 8 refuses in a player, each cause by itself. Definitions only.
 use Rattle.player.specs.declared.LoopRt.{LoopRt}
+use Rattle.player.specs.declared.Fade.{Fade}
 use Rattle.std.specs.Prelude.{ℕ, ◌+◌, ◌-◌, Bool, false, not, ◌&&◌, cond, List, [], ◌∷◌, map, ltb, leb, eqb, Float, None, Option, Some}
 use Rattle.std.specs.Float.{binary64}
 use Rattle.std.specs.Float.Ieee.{le, eq, fits}
@@ -18,9 +19,13 @@ use Rattle.players.specs.Seats.{sounding}
 abbrev pub region_out : BoundProgram → Player → Bool
 region_out b p = leb b.regions p.region
 
--- the sample is outside it, and not silence
+-- the sample is outside it
+abbrev pub named_out : BoundProgram → Option ℕ → Bool
+named_out b None = false
+named_out b (Some i) = leb b.samples i
+
 abbrev pub sample_out : BoundProgram → Player → Bool
-sample_out b p = not (eqb p.sample 0xffff_ffff) && leb b.samples p.sample
+sample_out b p = named_out b p.sample
 
 -- a span above 40 half taps
 abbrev pub span_over : Player → Bool
@@ -42,23 +47,36 @@ stages_over p = not (every (map slot_fits p.slots))
 unfoldable pub is_double : ℕ → Float → Bool
 is_double n x = eq x (double n) && fits binary64 x
 
+-- the frames of a loop's fade
+abbrev pub frames_in : Option Fade → ℕ
+frames_in None = 0
+frames_in (Some f) = f.frames
+
 -- a loop whose end is below its start, whose size is not end + 1 - start, or whose fade exceeds its start
 unfoldable pub loop_wrong : Option LoopRt → Bool
 loop_wrong None = false
 loop_wrong (Some l) =
-    not (every (leb l.start l.end ∷ is_double (l.end + 1 - l.start) l.size ∷ leb l.xf l.start ∷ []))
+    not (every (leb l.start l.end ∷ is_double (l.end + 1 - l.start) l.size ∷ leb (frames_in l.fade) l.start ∷ []))
+
+-- not within 0 to the most
+abbrev pub outside : Float → Float → Bool
+outside top x = not (le first x && le x top)
 
 -- a position not within 0 to 8,589,934,592
 unfoldable pub position_out : Player → Bool
-position_out p = not (le first p.hot.pos && le p.hot.pos furthest)
+position_out p = outside furthest p.hot.pos
 
 -- a step not within 0 to 4,096
 unfoldable pub step_out : Player → Bool
-step_out p = not (le first p.cold.step && le p.cold.step most)
+step_out p = outside most p.cold.step
 
 -- the frame count of the player's sample; 4,294,967,295 for silence
+abbrev pub frames_named : List ℕ → Option ℕ → ℕ
+frames_named ss None = 0xffff_ffff
+frames_named ss (Some i) = (sample_at ss i).frames
+
 unfoldable pub frame_count : List ℕ → Player → ℕ
-frame_count ss p = cond (eqb p.sample 0xffff_ffff) 0xffff_ffff (sample_at ss p.sample).frames
+frame_count ss p = frames_named ss p.sample
 
 -- a loop whose end is not below the frame count
 abbrev pub loop_past : ℕ → Option LoopRt → Bool

@@ -1,6 +1,6 @@
 -- The players' segments, one after the other: the loop's state, and what a segment keeps. Assumes nothing.
 use Rattle.std.specs.List.{list_any}
-use Rattle.std.specs.Prelude.{cond}
+use Rattle.std.specs.Prelude.{cond, Option}
 use Prim.Native.Nat.{ℕ, zero, suc, ◌+◌, ◌<◌, ◌≤◌}
 use mathlib.Core.Path.{◌≡◌, refl, sym, ap, subst, ◌∙◌}
 use mathlib.Core.Bool.{Bool, true, false, ◌||◌}
@@ -20,12 +20,12 @@ use Rattle.segments.specs.Segment.{Rendered, played_by}
 use Rattle.player.specs.declared.Player.{Player}
 use Rattle.segments.specs.declared.segment.Played.{Played}
 use Rattle.players.specs.declared.Players.{Players}
-use Rattle.players.specs.declared.mix.Tune.{Tune}
-use Rattle.players.specs.Mix.{Sounds, Band, Mixture, lent_to, joined_by, played_band, played_all, mixture, noted, slot_pushed, tuned_one, tuned_all}
-use Rattle.players.specs.Seats.{PlayersOk, sounding, reseat, slots_from, no_player, is_over}
+use Rattle.players.specs.declared.Tune.{Tune}
+use Rattle.players.specs.Mix.{Sounds, Band, Mixture, lent_to, joined_by, played_band, played_all, mixture, tuned_one, tuned_all}
+use Rattle.players.specs.Seats.{PlayersOk, sounding, reseat, slots_from, slot_pushed, no_player, is_over}
 use Rattle.players.proofs.Kept.{sounding-length}
 use Rattle.players.proofs.Passing.{get_d_any}
-use Rattle.players.proofs.Places.{any-more, or_no}
+use Rattle.players.proofs.Places.{any-more, slots-pushed, slots-room}
 use Rattle.players.proofs.Seating.{sounding-reseat}
 use Rattle.players.proofs.Tuning.{tuned-slot, sounding-tuned, reseat-tuned}
 
@@ -45,18 +45,19 @@ packed-at ks xs i d e =
 abbrev made : List ℕ → ℕ → Slots
 made l n = record { slots = l; count = n }
 
--- one slot more among fewer than 32
+-- the slot of a player whose data ended, behind those before it
+abbrev pub noted : Bool → ℕ → Slots → Slots
+noted t k e = cond t (slot_pushed k e) e
+
+pub noted-yes : (t : Bool) (k : ℕ) (e f : Slots) → t ≡ true → f ≡ slot_pushed k e → f ≡ noted t k e
+noted-yes t k e f h is = is ∙ sym (ap (λ (b : Bool). noted b k e) h)
+
+pub noted-no : (t : Bool) (k : ℕ) (e f : Slots) → t ≡ false → f ≡ e → f ≡ noted t k e
+noted-no t k e f h is = is ∙ sym (ap (λ (b : Bool). noted b k e) h)
+
 slots-noted : (t : Bool) (ks : List ℕ) (k : ℕ) → length ks < 32 → noted t k (slots_from ks) ≡ slots_from (cond t (ks ++ (k ∷ [])) ks)
-unfolding noted
 slots-noted false ks k h = refl
-slots-noted true ks k h =
-    let n : length (ks ++ (k ∷ [])) ≡ length ks + 1 = length-append ks (k ∷ []) in
-    let a : take 32 ks ≡ ks = take_all 32 ks (omega arith) in
-    let b : take 32 (ks ++ (k ∷ [])) ≡ ks ++ (k ∷ []) = take_all 32 (ks ++ (k ∷ [])) (omega arith) in
-    ap (λ (l : List ℕ). slot_pushed k (made (packed l (replicate 32 0)) (length l))) a
-    ∙ ap (λ (l : List ℕ). made l (length ks + 1)) (packed-set ks (replicate 32 0) k 0 h)
-    ∙ ap (made (packed (ks ++ (k ∷ [])) (replicate 32 0))) (sym n)
-    ∙ ap (λ (l : List ℕ). made (packed l (replicate 32 0)) (length l)) (sym b)
+slots-noted true ks k h = slots-pushed ks k h
 
 few-more : (t : Bool) (ks : List ℕ) (k n : ℕ) → length ks ≤ n → length (cond t (ks ++ (k ∷ [])) ks) ≤ n + 1
 few-more true ks k n h = omega (arith, length-append ks (k ∷ []))
@@ -69,18 +70,7 @@ seated_as l n = record { players = l; count = n }
 over-more : (o w : Bool) (qs : List Player) (q : Player) → o ≡ list_any is_over qs → w ≡ o || is_over q → w ≡ list_any is_over (qs ++ (q ∷ []))
 over-more o w qs q e f = f ∙ ap (λ (t : Bool). t || is_over q) e ∙ sym (any-more is_over qs q)
 
--- what the test of the envelope tells
-pub over-hit : (o b : Bool) (q : Player) → b ≡ is_over q → b ≡ true → true ≡ o || is_over q
-over-hit o b q told e = sym (ap (λ (t : Bool). o || t) (sym told ∙ e) ∙ or_yes o)
-  where
-    or_yes : (k : Bool) → k || true ≡ true
-    or_yes true = refl
-    or_yes false = refl
-
-pub over-miss : (o b : Bool) (q : Player) → b ≡ is_over q → b ≡ false → o ≡ o || is_over q
-over-miss o b q told e = sym (ap (λ (t : Bool). o || t) (sym told ∙ e) ∙ or_no o)
-
-module _ (x : Sounds) (u : Tune) (ps : Players) (l₀ r₀ : List Float) where
+module _ (x : Sounds) (u : Option Tune) (ps : Players) (l₀ r₀ : List Float) where
   -- after k players
   abbrev pub so_far : ℕ → Band
   so_far k = played_band x (map (tuned_one u) (take k ps.players)) l₀ r₀
@@ -123,8 +113,7 @@ module _ (x : Sounds) (u : Tune) (ps : Players) (l₀ r₀ : List Float) where
   -- the slots so far have room
   pub going-room : (k : ℕ) (t : Players) (e : Slots) (o : Bool) (l r : List Float) → Going k t e o l r → k < 32 → e.count < 32
   going-room k t e o l r g h =
-      let n : length (take 32 (so_far k).ended) ≡ length (so_far k).ended = ap length (take_all 32 (so_far k).ended (omega (arith, g.few))) in
-      omega (arith, ap (λ (v : Slots). v.count) g.ended, g.few)
+      slots-room (so_far k).ended e g.ended (omega (arith, g.few))
 
   -- the next player is fit to play
   pub going_fine : (k : ℕ) (t : Players) (e : Slots) (o : Bool) (l r : List Float) → PlayersOk ps → Going k t e o l r → k < ps.count → (d : Player) → PlayerOk (get_or t.players k d)

@@ -10,16 +10,16 @@ use lib.ListN.{length, take, replicate, length-append, length-map, length-set, l
 use lib.Seq.{take-append_seam, take_all}
 use lib.Ieee.{Float}
 use Rattle.filter.specs.declared.FilterShape.{FilterShape}
-use Rattle.filter.specs.Filter.{chained}
 use Rattle.session.specs.Lists.{elem, packed, used_of}
 use Rattle.session.specs.State.{slot_list}
 use Rattle.session.proofs.Walks.{used-below, used-small}
 use Rattle.player.specs.declared.Cold.{Cold}
 use Rattle.player.specs.declared.Hot.{Hot}
 use Rattle.player.specs.declared.Player.{Player}
-use Rattle.segments.specs.declared.segment.Frame.{Frame}
-use Rattle.segments.specs.Source.{Lent}
-use Rattle.segments.specs.Segment.{Run, frame_next, run_one, run_for, with_hot, played, mixed, played_by}
+use Rattle.segments.specs.declared.segment.Turn.{Turn}
+use Rattle.segments.specs.declared.segment.Turn.TheVariants.{Over, Sounds as Heard}
+use Rattle.segments.specs.Source.{Sound}
+use Rattle.segments.specs.Segment.{Run, frame_next, run_one, run_for, with_hot, played, played_by}
 use Rattle.players.specs.declared.Players.{Players}
 use Rattle.players.specs.Seats.{sounding, reseat, slots_from, slot_numbers}
 use Rattle.players.specs.Mix.{Sounds, Band, lent_to, joined_by, played_band, played_all}
@@ -30,12 +30,10 @@ pub record SameLengths (l r : List Float) (x : Run) : Type 0 where
   pub left : length x.left ≡ length l
   pub right : length x.right ≡ length r
 
-module _ (c : Cold) (fs : List FilterShape) (s : Lent) (l r : List Float) where
-  one-frame : (j : ℕ) (x : Run) (f : Frame) → SameLengths l r x → (t : Bool) → SameLengths l r
-      (cond t (record { hot = f.hot; states = x.states; left = x.left; right = x.right; done = true })
-      (mixed c j x f (chained fs c.stereo c.n_filters (record { l = f.l; r = f.r; states = x.states }))))
-  one-frame j x f same true = record { left = same.left; right = same.right }
-  one-frame j x f same false = record { left = length-set x.left j _ ∙ same.left; right = length-set x.right j _ ∙ same.right }
+module _ (c : Cold) (fs : List FilterShape) (s : Sound) (l r : List Float) where
+  one-frame : (j : ℕ) (x : Run) (t : Turn) → SameLengths l r x → SameLengths l r (played c fs j x t)
+  one-frame j x (Over h) same = record { left = same.left; right = same.right }
+  one-frame j x (Heard f) same = record { left = length-set x.left j _ ∙ same.left; right = length-set x.right j _ ∙ same.right }
 
   one-run : (j : ℕ) (x : Run) → SameLengths l r x → SameLengths l r (run_one c fs s j x)
   unfolding run_one
@@ -43,14 +41,14 @@ module _ (c : Cold) (fs : List FilterShape) (s : Lent) (l r : List Float) where
     where
       by-case : (t : Bool) → SameLengths l r (cond t x (played c fs j x (frame_next c s x.hot)))
       by-case true = same
-      by-case false = one-frame j x (frame_next c s x.hot) same (frame_next c s x.hot).done
+      by-case false = one-frame j x (frame_next c s x.hot) same
 
   all-frames : (k : ℕ) (x : Run) → SameLengths l r x → SameLengths l r (run_for c fs s k x)
   unfolding run_for
   all-frames zero x same = same
   all-frames (suc k) x same = one-run k (run_for c fs s k x) (all-frames k x same)
 
-module _ (s : Lent) (p : Player) (l r : List Float) where
+module _ (s : Sound) (p : Player) (l r : List Float) where
   lengths : SameLengths l r (run_for p.cold p.slots s (length l) (record { hot = p.hot; states = p.states; left = l; right = r; done = false }))
   lengths = all-frames p.cold p.slots s l r (length l) (record { hot = p.hot; states = p.states; left = l; right = r; done = false }) (record { left = refl; right = refl })
 

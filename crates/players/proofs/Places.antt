@@ -9,8 +9,8 @@ use mathlib.Core.List.{List, [], ◌∷◌, ◌++◌, map, append-nil}
 use native.Mathlib.Omega.{arith}
 use native.Mathlib.Numerals.{add-one}
 use native.Mathlib.Nat.{le_antisymm}
-use lib.ListN.{length, take, drop, set, get_or, replicate, length-append, length-map, length-set, take-append-drop, drop_of_length-le}
-use lib.Seq.{get_or-take, get_or-drop, get_or-append-add, take-suc, take_all, set-get_or, set-append_left}
+use lib.ListN.{length, take, drop, set, get_or, replicate, length-append, length-map, length-set, length-take, take-append-drop, drop_of_length-le}
+use lib.Seq.{get_or-take, take-suc, take_all, set-get_or, set-append_left}
 use lib.Dec.{ltb}
 use borrow.Author.Tests.{ltb-false}
 use lib.Ieee.{Float, ne}
@@ -18,14 +18,18 @@ use Rattle.interp.specs.Span.{span_for}
 use Rattle.session.specs.Lists.{used_of, packed, change_if, change_where, change_first}
 use Rattle.session.specs.declared.Slots.{Slots}
 use Rattle.session.proofs.Walks.{on_first, on_first-step, keep-step}
-use Rattle.session.proofs.Packing.{Packed, packed-set, packed_none, packed-skip, packed_keep}
+use Rattle.session.proofs.Packing.{packed-set}
 use Rattle.player.specs.declared.Cold.{Cold}
 use Rattle.player.specs.declared.Player.{Player}
+use Rattle.player.specs.Bounds.{PlayerOk}
 use Rattle.player.specs.Pitch.{step_of, with_step, pitched}
 use Rattle.players.specs.declared.Players.{Players}
-use Rattle.players.specs.Seats.{sounding, reseat, PlayersOk, slots_from, slot_numbers, with_cold, retuned, is_over, reaped}
-use Rattle.players.specs.Gate.{delays, hears_gate, let_go, released_all, turned_off, off_once, in_slot, first_is, offed_slot}
-use Rattle.players.proofs.Kept.{in_use, sounding-length}
+use Rattle.players.specs.Seats.{sounding, reseat, PlayersOk, no_player, seated, slots_from, slot_pushed, slot_numbers, with_cold, retuned, is_over, reaped}
+use Rattle.players.specs.declared.OffMark.{OffMark}
+use Rattle.players.specs.declared.OffMark.TheVariants.{NoPlayer, Ignored, Turned}
+use Rattle.players.specs.Gate.{delays, hears_gate, let_go, released_all, turned_off, off_once, in_slot, mark_on, met_in, offed_slot}
+use Rattle.players.proofs.Kept.{in_use, sounding-length, sounding-ok, keep-few}
+use Rattle.players.proofs.Passing.{get_d_any}
 
 -- ---- a walk that changes players
 
@@ -62,21 +66,12 @@ same-pitch p note bend c e h =
         let z : ◌≡◌ {A = ℕ} 0 1 = ap (λ (b : Bool). cond b 0 1) k in
         absurd (omega arith)
 
--- the walk that retunes: c is the next player's part under the new pitch
-module _ (note bend : Float) (xs ys : List Player) (i : ℕ) (d : Player) (so_far : ys ≡ on_first (retuned note bend) i xs) where
-  module _ (c : Cold) (told : c ≡ pitched (get_or ys i d).cold note bend) where
-    stored : (q : Player) → q ≡ retuned note bend (get_or ys i d) → set ys i q ≡ on_first (retuned note bend) (i + 1) xs
-    stored q e =
-        ap (set ys i) e ∙ ap (λ (l : List Player). set l i (retuned note bend (get_or l i d))) so_far ∙ on_first-step (retuned note bend) xs i d
+-- one step of a walk that changes each by f, and its end
+pub walk-each : {A : Type 0} (f : A → A) (xs ys : List A) (i : ℕ) (d : A) → ys ≡ on_first f i xs → set ys i (f (get_or ys i d)) ≡ on_first f (i + 1) xs
+walk-each f xs ys i d so_far = ap (λ l. set l i (f (get_or l i d))) so_far ∙ on_first-step f xs i d
 
-    pub pitch-moves : set ys i (with_cold c (get_or ys i d)) ≡ on_first (retuned note bend) (i + 1) xs
-    pitch-moves = stored _ (ap (λ (x : Cold). with_cold x (get_or ys i d)) told)
-
-    pub pitch-stays : ne c.step (get_or ys i d).cold.step ≡ false → set ys i (get_or ys i d) ≡ on_first (retuned note bend) (i + 1) xs
-    pitch-stays h = stored _ (sym (same-pitch (get_or ys i d) note bend c told h))
-
-pub pitch-done : (note bend : Float) (xs ys : List Player) (i : ℕ) → ys ≡ on_first (retuned note bend) i xs → length xs ≤ i → ys ≡ map (retuned note bend) xs
-pitch-done note bend xs ys i so_far h = so_far ∙ rw (take_all i xs h, drop_of_length-le xs {i = i} h) (append-nil (map (retuned note bend) xs))
+pub walked-all : {A : Type 0} (f : A → A) (xs ys : List A) (i : ℕ) → ys ≡ on_first f i xs → length xs ≤ i → ys ≡ map f xs
+walked-all f xs ys i so_far h = so_far ∙ rw (take_all i xs h, drop_of_length-le xs {i = i} h) (append-nil (map f xs))
 
 -- ---- whether a player was ended in its delay
 
@@ -131,37 +126,23 @@ module _ (ps : Players) (ok : PlayersOk ps) (front back : List Player) (as_many 
 
 -- ---- a list of slots that grows
 
--- the list stands in front, j long, and 0 behind it
-pub record Listed (ks ys : List ℕ) (j : ℕ) : Type 0 where
-  pub counted : j ≡ length ks
-  pub so_far : ys ≡ packed ks (replicate 32 0)
+abbrev listed_as : List ℕ → ℕ → Slots
+listed_as l n = record { slots = l; count = n }
 
-pub listed-none : Listed [] (replicate 32 0) 0
-listed-none = record { counted = refl; so_far = refl }
+-- one slot more among fewer than 32
+pub slots-pushed : (ks : List ℕ) (k : ℕ) → length ks < 32 → slot_pushed k (slots_from ks) ≡ slots_from (ks ++ (k ∷ []))
+slots-pushed ks k h =
+    let n : length (ks ++ (k ∷ [])) ≡ length ks + 1 = length-append ks (k ∷ []) in
+    let a : take 32 ks ≡ ks = take_all 32 ks (omega arith) in
+    let b : take 32 (ks ++ (k ∷ [])) ≡ ks ++ (k ∷ []) = take_all 32 (ks ++ (k ∷ [])) (omega arith) in
+    ap (λ (l : List ℕ). slot_pushed k (listed_as (packed l (replicate 32 0)) (length l))) a
+    ∙ ap (λ (l : List ℕ). listed_as l (length ks + 1)) (packed-set ks (replicate 32 0) k 0 h)
+    ∙ ap (listed_as (packed (ks ++ (k ∷ [])) (replicate 32 0))) (sym n)
+    ∙ ap (λ (l : List ℕ). listed_as (packed l (replicate 32 0)) (length l)) (sym b)
 
-module _ (ks ys : List ℕ) (j : ℕ) (h : Listed ks ys j) where
-  pub listed_more : (a : ℕ) (ls : List ℕ) → j < 32 → ls ≡ ks ++ (a ∷ []) → Listed ls (set ys j a) (j + 1)
-  listed_more a ls room e = record {
-    counted = ap (λ (n : ℕ). n + 1) h.counted ∙ sym (ap length e ∙ length-append ks (a ∷ []));
-    so_far =
-        ap (λ (l : List ℕ). set l j a) h.so_far
-        ∙ ap (λ (n : ℕ). set (packed ks (replicate 32 0)) n a) h.counted
-        ∙ packed-set ks (replicate 32 0) a 0 (omega (arith, h.counted))
-        ∙ ap (λ (l : List ℕ). packed l (replicate 32 0)) (sym e);
-  }
-
-  pub listed_same : (ls : List ℕ) → ls ≡ ks → Listed ls ys j
-  listed_same ls e = record {
-    counted = h.counted ∙ ap length (sym e);
-    so_far = h.so_far ∙ ap (λ (l : List ℕ). packed l (replicate 32 0)) (sym e);
-  }
-
-  pub listed-done : (ls : List ℕ) → ks ≡ ls → j ≤ 32 → record { slots = ys; count = j } ≡ slots_from ls
-  listed-done ls e few =
-      ap (λ (l : List ℕ). record { slots = l; count = j }) h.so_far
-      ∙ ap (λ (n : ℕ). record { slots = packed ks (replicate 32 0); count = n }) h.counted
-      ∙ ap (λ (l : List ℕ). record { slots = packed l (replicate 32 0); count = length l })
-      (sym (take_all 32 ks (omega (arith, h.counted))) ∙ ap (take 32) e)
+-- as many as were pushed
+pub slots-room : (ks : List ℕ) (e : Slots) → e ≡ slots_from ks → length ks < 32 → e.count < 32
+slots-room ks e is h = omega (arith, ap (λ (v : Slots). v.count) is, ap length (take_all 32 ks (omega arith)))
 
 slots-append : (xs ys : List Player) → slot_numbers (xs ++ ys) ≡ slot_numbers xs ++ slot_numbers ys
 slots-append [] ys = refl
@@ -172,77 +153,101 @@ pub slots-step : (xs : List Player) (i : ℕ) (d : Player) → i < length xs
 slots-step xs i d h =
     ap (λ (k : ℕ). slot_numbers (take k xs)) (add-one i) ∙ ap slot_numbers (take-suc xs i d h) ∙ slots-append (take i xs) (get_or xs i d ∷ [])
 
-pub slots-done : (xs : List Player) (ys : List ℕ) (i : ℕ) → Listed (slot_numbers (take i xs)) ys i → length xs ≤ 32 → i ≤ length xs → length xs ≤ i
-    → record { slots = ys; count = length xs } ≡ slots_from (slot_numbers xs)
-slots-done xs ys i h few p q =
-    ap (λ (k : ℕ). record { slots = ys; count = k }) (le_antisymm q p)
-    ∙ listed-done (slot_numbers (take i xs)) ys i h (slot_numbers xs) (ap slot_numbers (take_all i xs q)) (omega arith)
+-- the slots of the players before the next one, and with it
+pub slots_next : (xs : List Player) (i : ℕ) (d : Player) (e : Slots) → e ≡ slots_from (slot_numbers (take i xs)) → i < length xs → length xs ≤ 32
+    → slot_pushed (get_or xs i d).slot e ≡ slots_from (slot_numbers (take (i + 1) xs))
+slots_next xs i d e is inside few =
+    ap (slot_pushed (get_or xs i d).slot) is
+    ∙ slots-pushed (slot_numbers (take i xs)) (get_or xs i d).slot (omega (arith, length-map (take i xs) (λ (p : Player). p.slot), length-take i xs))
+    ∙ ap slots_from (sym (slots-step xs i d inside))
+
+pub slots_next-room : (xs : List Player) (i : ℕ) (e : Slots) → e ≡ slots_from (slot_numbers (take i xs)) → i < length xs → length xs ≤ 32 → e.count < 32
+slots_next-room xs i e is inside few =
+    slots-room (slot_numbers (take i xs)) e is (omega (arith, length-map (take i xs) (λ (p : Player). p.slot), length-take i xs))
 
 -- ---- the players that are over
 
 abbrev pub goes_on : Player → Bool
 goes_on p = not (is_over p)
 
--- a place behind those in front is as it was
-packed-at : {A : Type 0} (ks xs : List A) (i : ℕ) (d : A) → length ks ≤ i → get_or (packed ks xs) i d ≡ get_or xs i d
-packed-at ks xs i d h =
-    let e : length ks + (i - length ks) ≡ i = omega arith in
-    rw e at (get_or-append-add ks (drop (length ks) xs) (i - length ks) d ∙ get_or-drop (length ks) xs (i - length ks) d)
+seated-reseat : (p d : Player) (qs : List Player) (ps : Players) → length qs < length ps.players → seated p (reseat qs ps) ≡ reseat (qs ++ (p ∷ [])) ps
+seated-reseat p d qs ps h =
+    ap (λ (l : List Player). places_at l (length qs + 1)) (packed-set qs ps.players p d h)
+    ∙ ap (places_at (packed (qs ++ (p ∷ [])) ps.players)) (sym (length-append qs (p ∷ [])))
 
--- the state of the loop over xs: those of the first i that go on stand in front, j of them, and the slots of the others are listed
-pub record Reaping (xs ys : List Player) (ks : List ℕ) (i j k : ℕ) : Type 0 where
-  pub front : Packed goes_on xs ys i j
-  pub listed : Listed (slot_numbers (filter is_over (take i xs))) ks k
-  pub fewer : k ≤ i
+-- the state of the loop over the players in use: those of the first i that go on stand in front, and the slots of the others are listed
+pub record Reaping (ps : Players) (xs : List Player) (i : ℕ) (ks : Players) (gs : Slots) : Type 0 where
+  pub all : xs ≡ sounding ps
+  pub kept : ks ≡ reseat (filter goes_on (take i xs)) ps
+  pub gone : gs ≡ slots_from (slot_numbers (filter is_over (take i xs)))
+  pub fine : PlayersOk ks
 
-pub reaping-none : (xs : List Player) → Reaping xs xs (replicate 32 0) 0 0 0
-reaping-none xs = record { front = packed_none goes_on xs; listed = listed-none; fewer = omega arith }
+pub reaping-none : (ps : Players) (xs : List Player) → PlayersOk ps → xs ≡ sounding ps → Reaping ps xs 0 (places_at ps.players 0) (listed_as (replicate 32 0) 0)
+reaping-none ps xs ok e = record {
+  all = e;
+  kept = refl;
+  gone = refl;
+  fine = record { few = omega arith; size = ok.size; each = λ k h. absurd (omega arith) };
+}
 
-module _ (xs ys : List Player) (ks : List ℕ) (i j k : ℕ) (d : Player) (h : Reaping xs ys ks i j k) (inside : i < length xs) (b : Bool)
-    (told : b ≡ is_over (get_or ys i d)) where
-  same : get_or ys i d ≡ get_or xs i d
-  same =
-      ap (λ (l : List Player). get_or l i d) h.front.so_far
-      ∙ packed-at (filter goes_on (take i xs)) xs i d (omega (arith, h.front.counted, h.front.behind))
+module _ (ps : Players) (ok : PlayersOk ps) (xs : List Player) (i : ℕ) (kept : Players) (gone : Slots) (h : Reaping ps xs i kept gone)
+    (inside : i < length xs) (d : Player) where
+  few : length xs ≤ 32
+  few = omega (arith, ap length h.all, sounding-length ps ok, ok.few)
 
-  over : (t : Bool) → b ≡ t → slot_numbers (filter is_over (take (i + 1) xs)) ≡ slot_numbers (filter is_over (take i xs)) ++ slot_numbers (cond t (get_or ys i d ∷ []) [])
-  over t e =
-      ap slot_numbers (keep-step is_over xs i d inside ∙ ap (λ (y : Player). filter is_over (take i xs) ++ cond (is_over y) (y ∷ []) []) (sym same))
-      ∙ slots-append (filter is_over (take i xs)) (cond (is_over (get_or ys i d)) (get_or ys i d ∷ []) [])
-      ∙ ap (λ (u : Bool). slot_numbers (filter is_over (take i xs)) ++ slot_numbers (cond u (get_or ys i d ∷ []) [])) (sym told ∙ e)
+  fewer : (p : Player → Bool) → length (filter p (take i xs)) ≤ i
+  fewer p = omega (arith, keep-few p (take i xs), length-take i xs)
 
-  -- the player leaves
-  pub reaping-out : b ≡ true → i < 32 → Reaping xs ys (set ks k (get_or ys i d).slot) (i + 1) j (k + 1)
-  reaping-out e few = record {
-    front = packed-skip goes_on xs ys i j d h.front inside (ap not (sym told ∙ e));
-    listed = listed_more (slot_numbers (filter is_over (take i xs))) ks k h.listed (get_or ys i d).slot _ (omega (arith, h.fewer)) (over true e);
-    fewer = omega (arith, h.fewer);
+  pub reaping-room : gone.count < 32
+  reaping-room =
+      slots-room (slot_numbers (filter is_over (take i xs))) gone h.gone
+      (omega (arith, length-map (filter is_over (take i xs)) (λ (p : Player). p.slot), fewer is_over, few))
+
+  pub reaping-seat : kept.count < 32
+  reaping-seat = omega (arith, ap (λ (x : Players). x.count) h.kept, fewer goes_on, few)
+
+  pub reaping_fine : PlayerOk (get_or xs i d)
+  reaping_fine =
+      subst PlayerOk (get_d_any xs i no_player d inside)
+      (subst (λ (l : List Player). PlayerOk (get_or l i no_player)) (sym h.all) (sounding-ok ps ok i (omega (arith, ap length h.all))))
+
+  next-of : (p : Player → Bool) (t : Bool) → p (get_or xs i d) ≡ t → filter p (take (i + 1) xs) ≡ filter p (take i xs) ++ cond t (get_or xs i d ∷ []) []
+  next-of p t e = keep-step p xs i d inside ∙ ap (λ (u : Bool). filter p (take i xs) ++ cond u (get_or xs i d ∷ []) []) e
+
+  pub reaping-out : (b : Bool) → b ≡ is_over (get_or xs i d) → b ≡ true → (g : Slots) → g ≡ slot_pushed (get_or xs i d).slot gone → Reaping ps xs (i + 1) kept g
+  reaping-out b told out g is = record {
+    all = h.all;
+    kept = h.kept ∙ ap (λ (l : List Player). reseat l ps) (sym (next-of goes_on false (ap not (sym told ∙ out)) ∙ append-nil (filter goes_on (take i xs))));
+    gone =
+        is ∙ ap (slot_pushed (get_or xs i d).slot) h.gone
+        ∙ slots-pushed (slot_numbers (filter is_over (take i xs))) (get_or xs i d).slot
+        (omega (arith, length-map (filter is_over (take i xs)) (λ (p : Player). p.slot), fewer is_over, few))
+        ∙ ap slots_from
+        (sym (ap slot_numbers (next-of is_over true (sym told ∙ out)) ∙ slots-append (filter is_over (take i xs)) (get_or xs i d ∷ [])));
+    fine = h.fine;
   }
 
-  -- the player goes on: it moves up, or stays in its place
-  pub reaping-on : b ≡ false → (zs : List Player) → zs ≡ set ys j (get_or ys i d) → Reaping xs zs ks (i + 1) (j + 1) k
-  reaping-on e zs f = record {
-    front = subst (λ (l : List Player). Packed goes_on xs l (i + 1) (j + 1)) (sym f) (packed_keep goes_on xs ys i j d h.front inside (ap not (sym told ∙ e)));
-    listed = listed_same (slot_numbers (filter is_over (take i xs))) ks k h.listed _ (over false e ∙ append-nil (slot_numbers (filter is_over (take i xs))));
-    fewer = omega (arith, h.fewer);
+  pub reaping-on : (b : Bool) → b ≡ is_over (get_or xs i d) → b ≡ false → (k : Players) → k ≡ seated (get_or xs i d) kept → PlayersOk k → Reaping ps xs (i + 1) k gone
+  reaping-on b told on k is fine = record {
+    all = h.all;
+    kept =
+        is ∙ ap (seated (get_or xs i d)) h.kept
+        ∙ seated-reseat (get_or xs i d) d (filter goes_on (take i xs)) ps (omega (arith, fewer goes_on, few, inside, ok.size))
+        ∙ ap (λ (l : List Player). reseat l ps) (sym (next-of goes_on true (ap not (sym told ∙ on))));
+    gone =
+        h.gone ∙ ap (λ (l : List Player). slots_from (slot_numbers l))
+        (sym (next-of is_over false (sym told ∙ on) ∙ append-nil (filter is_over (take i xs))));
+    fine = fine;
   }
 
-  pub reaping-stay : b ≡ false → i ≤ j → (zs : List Player) → zs ≡ ys → Reaping xs zs ks (i + 1) (j + 1) k
-  reaping-stay e q zs f =
-      reaping-on e zs (f ∙ sym (ap (λ (n : ℕ). set ys n (get_or ys i d)) (le_antisymm h.front.behind q) ∙ set-get_or ys i d))
-
-pub reaped-done : (ps : Players) (ys : List Player) (ks : List ℕ) (i j k : ℕ) → PlayersOk ps → Reaping ps.players ys ks i j k → i ≤ ps.count
-    → ps.count ≤ i → record { players = places_at ys j; gone = record { slots = ks; count = k } } ≡ reaped ps
+pub reaped-done : (ps : Players) (xs : List Player) (i : ℕ) (kept : Players) (gone : Slots) → Reaping ps xs i kept gone → length xs ≤ i
+    → record { players = kept; gone = gone } ≡ reaped ps
 unfolding reaped
-reaped-done ps ys ks i j k ok h p q =
-    let e : i ≡ used_of 32 ps.count = le_antisymm p q ∙ sym (in_use ps ok) in
-    ap (λ (x : Players). record { players = x; gone = record { slots = ks; count = k } })
-    (ap (λ (y : List Player). places_at y j) h.front.so_far
-    ∙ ap (λ (n : ℕ). places_at (packed (filter goes_on (take i ps.players)) ps.players) n) h.front.counted
-    ∙ ap (λ (n : ℕ). reseat (filter goes_on (take n ps.players)) ps) e)
+reaped-done ps xs i kept gone h p =
+    let e : take i xs ≡ sounding ps = take_all i xs p ∙ h.all in
+    ap (λ (x : Players). record { players = x; gone = gone }) (h.kept ∙ ap (λ (l : List Player). reseat (filter goes_on l) ps) e)
     ∙ ap (λ (x : Slots). record { players = reseat (filter goes_on (sounding ps)) ps; gone = x })
-    (listed-done (slot_numbers (filter is_over (take i ps.players))) ks k h.listed (slot_numbers (filter is_over (sounding ps)))
-    (ap (λ (n : ℕ). slot_numbers (filter is_over (take n ps.players))) e) (omega (arith, h.fewer, ok.few)))
+    (h.gone ∙ ap (λ (l : List Player). slots_from (slot_numbers (filter is_over l))) e)
 
 -- ---- the first player of a slot
 
@@ -262,39 +267,40 @@ module _ (ps : Players) (ok : PlayersOk ps) where
       ∙ ap (λ (k : ℕ). set (take k ps.players ++ drop ps.count ps.players) i q) (in_use ps ok)
       ∙ ap (λ (l : List Player). set l i q) (take-append-drop ps.count ps.players))
 
--- the first element that p holds of stands at i
-met-at : (p : Player → Bool) (xs : List Player) (i : ℕ) (d : Player) → i < length xs → p (get_or xs i d) ≡ true → ((k : ℕ) → k < i → p (get_or xs k d) ≡ false)
-    → ((q : Player → Bool) → first_is p q xs ≡ q (get_or xs i d)) × ((f : Player → Player) → change_first p f xs ≡ set xs i (f (get_or xs i d)))
-met-at p [] i d h e before = let z : ⊥ = omega arith in absurd z
-met-at p (x ∷ xs) zero d h e before = (
-  λ q. ap (λ (t : Bool). cond t (q x) (first_is p q xs)) e,
-  λ f. ap (λ (t : Bool). cond t (f x ∷ xs) (x ∷ change_first p f xs)) e,
+-- the first player of slot k stands at i
+met-at : (k : ℕ) (xs : List Player) (i : ℕ) (d : Player) → i < length xs → in_slot k (get_or xs i d) ≡ true
+    → ((j : ℕ) → j < i → in_slot k (get_or xs j d) ≡ false)
+    → (met_in k xs ≡ mark_on (get_or xs i d)) × ((f : Player → Player) → change_first (in_slot k) f xs ≡ set xs i (f (get_or xs i d)))
+met-at k [] i d h e before = let z : ⊥ = omega arith in absurd z
+met-at k (x ∷ xs) zero d h e before = (
+  ap (λ (t : Bool). cond t (mark_on x) (met_in k xs)) e,
+  λ f. ap (λ (t : Bool). cond t (f x ∷ xs) (x ∷ change_first (in_slot k) f xs)) e,
 )
-met-at p (x ∷ xs) (suc i) d h e before =
-    let r = met-at p xs i d (omega arith) e (λ k l. before (suc k) (omega arith)) in
-    let not_here : p x ≡ false = before 0 (omega arith) in (
-      λ q. ap (λ (t : Bool). cond t (q x) (first_is p q xs)) not_here ∙ r.0 q,
-      λ f. ap (λ (t : Bool). cond t (f x ∷ xs) (x ∷ change_first p f xs)) not_here ∙ ap (λ (l : List Player). x ∷ l) (r.1 f),
+met-at k (x ∷ xs) (suc i) d h e before =
+    let r = met-at k xs i d (omega arith) e (λ j l. before (suc j) (omega arith)) in
+    let not_here : in_slot k x ≡ false = before 0 (omega arith) in (
+      ap (λ (t : Bool). cond t (mark_on x) (met_in k xs)) not_here ∙ r.0,
+      λ f. ap (λ (t : Bool). cond t (f x ∷ xs) (x ∷ change_first (in_slot k) f xs)) not_here ∙ ap (λ (l : List Player). x ∷ l) (r.1 f),
     )
 
--- p holds of none
-met-none : (p : Player → Bool) (xs : List Player) → length xs ≤ position_or_len p xs
-    → ((q : Player → Bool) → first_is p q xs ≡ false) × ((f : Player → Player) → change_first p f xs ≡ xs)
-met-none p [] h = (λ q. refl, λ f. refl)
-met-none p (x ∷ xs) h = by-case (p x) refl (λ l. met-none p xs l)
+-- no player is in slot k
+met-none : (k : ℕ) (xs : List Player) → length xs ≤ position_or_len (in_slot k) xs
+    → (met_in k xs ≡ NoPlayer) × ((f : Player → Player) → change_first (in_slot k) f xs ≡ xs)
+met-none k [] h = (refl, λ f. refl)
+met-none k (x ∷ xs) h = by-case (in_slot k x) refl (λ l. met-none k xs l)
   where
-    by-case : (t : Bool) → p x ≡ t
-        → (length xs ≤ position_or_len p xs → ((q : Player → Bool) → first_is p q xs ≡ false) × ((f : Player → Player) → change_first p f xs ≡ xs))
-        → ((q : Player → Bool) → first_is p q (x ∷ xs) ≡ false) × ((f : Player → Player) → change_first p f (x ∷ xs) ≡ x ∷ xs)
+    by-case : (t : Bool) → in_slot k x ≡ t
+        → (length xs ≤ position_or_len (in_slot k) xs → (met_in k xs ≡ NoPlayer) × ((f : Player → Player) → change_first (in_slot k) f xs ≡ xs))
+        → (met_in k (x ∷ xs) ≡ NoPlayer) × ((f : Player → Player) → change_first (in_slot k) f (x ∷ xs) ≡ x ∷ xs)
     by-case true e later =
-        let z : position_or_len p (x ∷ xs) ≡ 0 = ap (λ (t : Bool). cond (not t) (1 + position_or_len p xs) 0) e in
+        let z : position_or_len (in_slot k) (x ∷ xs) ≡ 0 = ap (λ (t : Bool). cond (not t) (1 + position_or_len (in_slot k) xs) 0) e in
         let never : ⊥ = omega (arith, h, z) in
         absurd never
     by-case false e later =
-        let z : position_or_len p (x ∷ xs) ≡ 1 + position_or_len p xs = ap (λ (t : Bool). cond (not t) (1 + position_or_len p xs) 0) e in
+        let z : position_or_len (in_slot k) (x ∷ xs) ≡ 1 + position_or_len (in_slot k) xs = ap (λ (t : Bool). cond (not t) (1 + position_or_len (in_slot k) xs) 0) e in
         let r = later (omega (arith, h, z)) in (
-          λ q. ap (λ (t : Bool). cond t (q x) (first_is p q xs)) e ∙ r.0 q,
-          λ f. ap (λ (t : Bool). cond t (f x ∷ xs) (x ∷ change_first p f xs)) e ∙ ap (λ (l : List Player). x ∷ l) (r.1 f),
+          ap (λ (t : Bool). cond t (mark_on x) (met_in k xs)) e ∙ r.0,
+          λ f. ap (λ (t : Bool). cond t (f x ∷ xs) (x ∷ change_first (in_slot k) f xs)) e ∙ ap (λ (l : List Player). x ∷ l) (r.1 f),
         )
 
 not-some : {X : Type 0} {x : X} → ◌≡◌ {A = Option X} (Some x) None → ⊥
@@ -308,14 +314,12 @@ past p xs e = by-case (ltb (position_or_len p xs) (length xs)) refl
     by-case false h = ltb-false (position_or_len p xs) (length xs) h
 
 module _ (k : ℕ) (ps : Players) (ok : PlayersOk ps) where
-  answers : (x : Players) (a b : Bool) → a ≡ first_is (in_slot k) (λ p. p.hot.offed) (sounding ps)
-      → b ≡ first_is (in_slot k) (λ p. not p.hot.offed && p.on_note) (sounding ps)
-      → x ≡ reseat (change_first (in_slot k) off_once (sounding ps)) ps → record { players = x; ignored = a; fires = b } ≡ offed_slot k ps
+  answers : (x : Players) (m : OffMark) → m ≡ met_in k (sounding ps)
+      → x ≡ reseat (change_first (in_slot k) off_once (sounding ps)) ps → record { players = x; mark = m } ≡ offed_slot k ps
   unfolding offed_slot
-  answers x a b f g s =
-      ap (λ (y : Players). record { players = y; ignored = a; fires = b }) s
-      ∙ ap (λ (y : Bool). record { players = reseat (change_first (in_slot k) off_once (sounding ps)) ps; ignored = y; fires = b }) f
-      ∙ ap (λ (y : Bool). record { players = reseat (change_first (in_slot k) off_once (sounding ps)) ps; ignored = first_is (in_slot k) (λ p. p.hot.offed) (sounding ps); fires = y }) g
+  answers x m f s =
+      ap (λ (y : Players). record { players = y; mark = m }) s
+      ∙ ap (λ (y : OffMark). record { players = reseat (change_first (in_slot k) off_once (sounding ps)) ps; mark = y }) f
 
   module _ (i : ℕ) (d : Player) (at : position (in_slot k) (sounding ps) ≡ Some i) where
     found : (i < length (sounding ps)) × (in_slot k (get_or (sounding ps) i d) ≡ true) × ((j : ℕ) → j < i → in_slot k (get_or (sounding ps) j d) ≡ false)
@@ -327,37 +331,35 @@ module _ (k : ℕ) (ps : Players) (ok : PlayersOk ps) where
     at_i : get_or (sounding ps) i d ≡ get_or ps.players i d
     at_i = get_or-take (used_of 32 ps.count) ps.players i d (omega (arith, in_use ps ok, inside))
 
-    asked : (q : Player → Bool) → first_is (in_slot k) q (sounding ps) ≡ q (get_or ps.players i d)
-    asked q = (met-at (in_slot k) (sounding ps) i d found.0 found.1 found.2).0 q ∙ ap q at_i
+    marked : met_in k (sounding ps) ≡ mark_on (get_or ps.players i d)
+    marked = (met-at k (sounding ps) i d found.0 found.1 found.2).0 ∙ ap mark_on at_i
 
     changed-one : (q : Player) → q ≡ off_once (get_or ps.players i d)
         → places_at (set ps.players i q) ps.count ≡ reseat (change_first (in_slot k) off_once (sounding ps)) ps
     changed-one q e =
         sym (ap (λ (l : List Player). reseat l ps)
-        ((met-at (in_slot k) (sounding ps) i d found.0 found.1 found.2).1 off_once ∙ ap (set (sounding ps) i) (ap off_once at_i ∙ sym e))
+        ((met-at k (sounding ps) i d found.0 found.1 found.2).1 off_once ∙ ap (set (sounding ps) i) (ap off_once at_i ∙ sym e))
         ∙ one_set ps ok i q inside)
 
     -- it was off already
-    pub met-off : (get_or ps.players i d).hot.offed ≡ true → record { players = ps; ignored = true; fires = false } ≡ offed_slot k ps
+    pub met-off : (get_or ps.players i d).hot.offed ≡ true → record { players = ps; mark = Ignored } ≡ offed_slot k ps
     met-off off =
         let x = get_or ps.players i d in
-        answers ps true false
-        (sym off ∙ sym (asked (λ p. p.hot.offed)))
-        (ap (λ (b : Bool). not b && x.on_note) (sym off) ∙ sym (asked (λ p. not p.hot.offed && p.on_note)))
+        answers ps Ignored
+        (sym (marked ∙ ap (λ (b : Bool). cond b Ignored (Turned x.on_note)) off))
         (ap (λ (l : List Player). places_at l ps.count) (sym (set-get_or ps.players i d)) ∙ changed-one x (ap (λ (b : Bool). cond b x (turned_off x)) (sym off)))
 
     -- it is turned off
     pub met-on : (q : Player) → (get_or ps.players i d).hot.offed ≡ false → q ≡ turned_off (get_or ps.players i d)
-        → record { players = places_at (set ps.players i q) ps.count; ignored = false; fires = (get_or ps.players i d).on_note } ≡ offed_slot k ps
+        → record { players = places_at (set ps.players i q) ps.count; mark = Turned (get_or ps.players i d).on_note } ≡ offed_slot k ps
     met-on q on e =
         let x = get_or ps.players i d in
-        answers (places_at (set ps.players i q) ps.count) false x.on_note
-        (sym on ∙ sym (asked (λ p. p.hot.offed)))
-        (ap (λ (b : Bool). not b && x.on_note) (sym on) ∙ sym (asked (λ p. not p.hot.offed && p.on_note)))
+        answers (places_at (set ps.players i q) ps.count) (Turned x.on_note)
+        (sym (marked ∙ ap (λ (b : Bool). cond b Ignored (Turned x.on_note)) on))
         (changed-one q (e ∙ ap (λ (b : Bool). cond b x (turned_off x)) (sym on)))
 
   -- no player is in the slot
-  pub unmet : position (in_slot k) (sounding ps) ≡ None → record { players = ps; ignored = false; fires = false } ≡ offed_slot k ps
+  pub unmet : position (in_slot k) (sounding ps) ≡ None → record { players = ps; mark = NoPlayer } ≡ offed_slot k ps
   unmet e =
-      let none = met-none (in_slot k) (sounding ps) (past (in_slot k) (sounding ps) e) in
-      answers ps false false (sym (none.0 _)) (sym (none.0 _)) (sym (ap (λ (l : List Player). reseat l ps) (none.1 off_once) ∙ all-seated ps ok))
+      let none = met-none k (sounding ps) (past (in_slot k) (sounding ps) e) in
+      answers ps NoPlayer (sym none.0) (sym (ap (λ (l : List Player). reseat l ps) (none.1 off_once) ∙ all-seated ps ok))

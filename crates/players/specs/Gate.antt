@@ -16,6 +16,8 @@ use Rattle.session.specs.Lists.{change_where, change_first}
 use Rattle.players.specs.declared.Players.{Players}
 use Rattle.players.specs.declared.Released.{Released}
 use Rattle.players.specs.declared.Offed.{Offed}
+use Rattle.players.specs.declared.OffMark.{OffMark}
+use Rattle.players.specs.declared.OffMark.TheVariants.{NoPlayer, Ignored, Turned}
 use Rattle.players.specs.Seats.{sounding, reseat}
 
 -- its envelope has delay left
@@ -75,16 +77,28 @@ in_slot k p = eqb p.slot k
 abbrev pub off_once : Player → Player
 off_once p = cond p.hot.offed p (turned_off p)
 
--- the first of the players that p holds of, asked whether q holds of it
-abbrev pub first_is : (Player → Bool) → (Player → Bool) → List Player → Bool
-first_is p q [] = false
-first_is p q (x ∷ xs) = cond (p x) (q x) (first_is p q xs)
+-- what an off mark does on a player; and on the first one in slot k
+abbrev pub mark_on : Player → OffMark
+mark_on x = cond x.hot.offed Ignored (Turned x.on_note)
 
--- The off mark of slot k acts on the first player in that slot: the players; whether that one was off already; and whether it was not
--- and belongs to a note-on
+abbrev pub met_in : ℕ → List Player → OffMark
+met_in k [] = NoPlayer
+met_in k (x ∷ xs) = cond (in_slot k x) (mark_on x) (met_in k xs)
+
+-- whether that one was off already; and whether it was not and belongs to a note-on
+abbrev pub ignored : OffMark → Bool
+ignored NoPlayer = false
+ignored Ignored = true
+ignored (Turned on_note) = false
+
+abbrev pub fires : OffMark → Bool
+fires NoPlayer = false
+fires Ignored = false
+fires (Turned on_note) = on_note
+
+-- The off mark of slot k acts on the first player in that slot
 unfoldable pub offed_slot : ℕ → Players → Offed
 offed_slot k ps = record {
   players = reseat (change_first (in_slot k) off_once (sounding ps)) ps;
-  ignored = first_is (in_slot k) (λ p. p.hot.offed) (sounding ps);
-  fires = first_is (in_slot k) (λ p. not p.hot.offed && p.on_note) (sounding ps);
+  mark = met_in k (sounding ps);
 }

@@ -1,16 +1,14 @@
 -- The frames of all players, one after the other, added to both outputs. Definitions only.
-use Rattle.std.specs.Prelude.{ℕ, ◌+◌, min, Bool, cond, take, drop, set, eqb, Float}
+use Rattle.std.specs.Prelude.{ℕ, ◌+◌, cond, take, drop, eqb, Float, None, Option, Some, unwrap_or}
 use mathlib.Core.List.{List, [], ◌∷◌, ◌++◌, foldl}
 use Rattle.program.specs.declared.sample.Sample.{Sample}
 use Rattle.program.specs.Sample.{sample_at}
 use Rattle.player.specs.declared.Player.{Player}
-use Rattle.segments.specs.Source.{Lent}
+use Rattle.segments.specs.Source.{Sound}
 use Rattle.segments.specs.Segment.{played_by}
 use Rattle.session.specs.declared.Slots.{Slots}
 use Rattle.players.specs.declared.Players.{Players}
-use Rattle.players.specs.declared.Mixed.{Mixed}
-use Rattle.players.specs.declared.mix.Parts.{Parts}
-use Rattle.players.specs.declared.mix.Tune.{Tune}
+use Rattle.players.specs.declared.Tune.{Tune}
 use Rattle.players.specs.Seats.{sounding, reseat, slots_from, retuned, retuned_all}
 
 -- what players read: the samples' words, all frames, and the sinc table's 8,194 entries
@@ -27,25 +25,11 @@ first_channel fs s = take s.frames (drop s.start fs)
 abbrev pub second_channel : List Float → Sample → List Float
 second_channel fs s = cond (eqb s.channels 2) (take s.frames (drop (s.start + s.frames) fs)) []
 
--- where both channels begin and end among `len` frames, held to what is there
-abbrev pub parts_of : Sample → ℕ → Parts
-parts_of s len =
-    let second = min (s.start + s.frames) len in
-    record { first = min s.start len; second = second; end = cond (eqb s.channels 2) (min (s.start + s.frames + s.frames) len) second }
-
 -- what a player is lent
-unfoldable pub lent_to : Sounds → Player → Lent
+unfoldable pub lent_to : Sounds → Player → Sound
 lent_to x p =
-    let s = sample_at x.samples p.sample in
-    record { a = first_channel x.frames s; b = second_channel x.frames s; table = x.table }
-
--- one slot more, behind the others
-abbrev pub slot_pushed : ℕ → Slots → Slots
-slot_pushed k e = record { slots = set e.slots e.count k; count = e.count + 1 }
-
--- where the data of the player in this slot ended
-unfoldable pub noted : Bool → ℕ → Slots → Slots
-noted t k e = cond t (slot_pushed k e) e
+    let s = sample_at x.samples (unwrap_or p.sample 0xffff_ffff) in
+    record { a = first_channel x.frames s; b = cond p.cold.stereo (Some (second_channel x.frames s)) None; table = x.table }
 
 -- the players that have played so far, the slots of those whose data ended, and both outputs
 pub record Band : Type 0 where
@@ -68,7 +52,12 @@ joined_by x b p =
 unfoldable pub played_band : Sounds → List Player → List Float → List Float → Band
 played_band x ps l r = foldl (joined_by x) (record { players = []; ended = []; left = l; right = r }) ps
 
--- a segment of all players, the slots of those whose data ended in it, and both outputs' parts
+-- a segment of all players, and the slots of those whose data ended in it
+pub record Mixed : Type 0 where
+  pub players : Players
+  pub ended : Slots
+
+-- beside both outputs' parts
 pub record Mixture : Type 0 where
   pub mixed : Mixed
   pub left : List Float
@@ -81,8 +70,10 @@ unfoldable pub played_all : Sounds → Players → List Float → List Float →
 played_all x ps l r = mixture ps (played_band x (sounding ps) l r)
 
 -- a player, and all of them, tuned as a block has it
-unfoldable pub tuned_one : Tune → Player → Player
-tuned_one x p = cond x.on (retuned x.note_f x.bend p) p
+unfoldable pub tuned_one : Option Tune → Player → Player
+tuned_one None p = p
+tuned_one (Some t) p = retuned t.note_f t.bend p
 
-unfoldable pub tuned_all : Tune → Players → Players
-tuned_all x ps = cond x.on (retuned_all x.note_f x.bend ps) ps
+unfoldable pub tuned_all : Option Tune → Players → Players
+tuned_all None ps = ps
+tuned_all (Some t) ps = retuned_all t.note_f t.bend ps

@@ -54,10 +54,7 @@ no_cold = record {
   loop_mode = NoLoop;
   n_filters = 0;
   gain = f0;
-  ll = f0;
-  rl = f0;
-  lr = f0;
-  rr = f0;
+  matrix = record { ll = f0; rl = f0; lr = f0; rr = f0 };
   rate_ratio = first;
   base_cents = f0;
   keytrack = f0;
@@ -78,7 +75,7 @@ no_player = record {
   states = replicate 72 f0;
   slot = 0;
   region = 0;
-  sample = 0;
+  sample = None;
   on_note = false;
 }
 
@@ -99,6 +96,10 @@ seated p ps = record { players = set ps.players ps.count p; count = ps.count + 1
 -- slot numbers, at most 32 of them, in front; the places behind them 0
 abbrev pub slots_from : List ℕ → Slots
 slots_from ks = record { slots = packed (take 32 ks) (replicate 32 0); count = length (take 32 ks) }
+
+-- one slot more, behind the others
+abbrev pub slot_pushed : ℕ → Slots → Slots
+slot_pushed k e = record { slots = set e.slots e.count k; count = e.count + 1 }
 
 abbrev pub slot_numbers : List Player → List ℕ
 slot_numbers qs = map (λ p. p.slot) qs

@@ -2,12 +2,10 @@
 ghost use Rattle.std.specs.Prelude.{position, ◌≡◌, ◌&&◌, ◌<◌};
 ghost use Rattle.std.specs.List.{list_any};
 ghost use Rattle.session.specs.Lists.{change_where};
-ghost use Rattle.envelope.specs.declared.EgState.TheVariants.{Done};
-ghost use Rattle.envelope.specs.Envelope.{at_state};
 ghost use Rattle.players.specs.Seats.{PlayersOk};
 ghost use Rattle.players.specs.Gate.{delays, ended_env, with_envelope, plays_on, hears_gate, let_go, released_all, off_time_of, turned_off, in_slot, offed_slot};
 
-use super::{Offed, Players, Released};
+use super::{OffMark, Offed, Players, Released};
 use envelope::{EgState, Env};
 use player::{Cold, Hot, Player};
 use program::region::{LoopMode, OffMode};
@@ -19,23 +17,16 @@ fn delays(p: Player) -> bool
     p.hot.env.remaining_delay() > 0
 }
 
-// The envelope, done at once.
-fn done_env(e: Env) -> Env
-    ensures { result ≡ at_state Done e }
-{
-    Env {
-        state: EgState::Done,
-        ..e
-    }
-}
-
 // Released; in its delay, done at once.
 #[tactic(auto, unfolding(crate::specs::Gate::ended_env))]
 fn ended_env(e: Env) -> Env
     ensures { result ≡ ended_env e }
 {
     if e.remaining_delay() > 0 {
-        return done_env(e);
+        return Env {
+            state: EgState::Done,
+            ..e
+        };
     }
     e.release()
 }
@@ -139,23 +130,18 @@ pub fn off_slot(ps: Players, slot: u32) -> Offed
     let Some(i) = place_of(ps.as_slice(), slot) else {
         return Offed {
             players: ps,
-            ignored: false,
-            fires: false,
+            mark: OffMark::NoPlayer,
         };
     };
     let p = ps.players[i];
     if p.hot.offed {
         return Offed {
             players: ps,
-            ignored: true,
-            fires: false,
+            mark: OffMark::Ignored,
         };
     }
     let mut t = ps;
     t.players[i] = turned_off(p);
-    Offed {
-        players: t,
-        ignored: false,
-        fires: p.on_note,
-    }
+    let mark = OffMark::Turned { on_note: p.on_note };
+    Offed { players: t, mark }
 }

@@ -1,32 +1,25 @@
 // A segment of every player, one after the other, added to both outputs' parts.
-ghost use Rattle.std.specs.Prelude.{◌≡◌, ◌<◌, min, length};
+ghost use Rattle.std.specs.Prelude.{◌≡◌, ◌<◌, ◌+◌, ◌^◌, cond, length, take, drop, option_map};
 ghost use Rattle.player.specs.Bounds.{PlayerOk};
 ghost use Rattle.segments.specs.Segment.{played_by};
 ghost use Rattle.std.specs.List.{list_any};
-ghost use Rattle.players.specs.Mix.{parts_of, lent_to, noted, tuned_one, tuned_all, played_all};
+ghost use Rattle.players.specs.Mix.{first_channel, second_channel, lent_to, tuned_one, tuned_all, played_all};
 ghost use Rattle.players.specs.Seats.{sounding, is_over, PlayersOk};
 
-use super::{Players, is_over, with_cold};
+use super::{NO_SLOTS, Players, Tune, is_over, push_slot, retune_one};
 use player::Player;
-use player::pitch::set_pitch;
+use program::region::SILENCE;
 use program::sample::{Sample, sample_at};
-use segments::segment::{Played, play};
+use segments::segment::play;
+use segments::source::Lent;
 use session::Slots;
 
-// Where a sample's channels lie among the frames: from `first` to `second`, and from there to `end`.
-#[derive(Drop)]
-pub struct Parts {
-    pub first: usize,
-    pub second: usize,
-    pub end: usize,
-}
-
-// How a block tunes the players: to a note and a bend, or not at all.
+// What players read: the samples' words, all frames, and the sinc table.
 #[derive(Clone, Copy)]
-pub struct Tune {
-    pub on: bool,
-    pub note_f: f32,
-    pub bend: f32,
+pub struct Sounds<'a> {
+    pub samples: &'a [u32],
+    pub frames: &'a [f32],
+    pub table: &'a [f32; 8194],
 }
 
 // After a segment: the slots of the players whose data ended in it, and whether some player's envelope is done.
@@ -38,124 +31,95 @@ pub struct Sounded {
     pub players: Players,
 }
 
-fn parts_of(s: Sample, len: usize) -> Parts
-    ensures { result ≡ parts_of s len }
+// The n frames from `start` on, or those of them that are there.
+fn part(frames: &[f32], start: usize, n: usize) -> &[f32]
+    requires { start + n < 2 ^ 64 }
+    ensures { result.now ≡ take n (drop start frames.now) }
 {
-    let start = s.start as usize;
-    let n = s.frames as usize;
+    let len = frames.len();
     let first = start.min(len);
-    let second = (start + n).min(len);
-    let end = if s.channels == 2 {
-        (start + n + n).min(len)
-    } else {
-        second
-    };
-    Parts { first, second, end }
+    let end = (start + n).min(len);
+    &frames[first..end]
 }
 
-// A player's segment with its sample's frames.
-fn play_one(
-    p: Player,
-    samples: &[u32],
-    frames: &[f32],
-    table: &[f32],
-    left: &mut [f32],
-    right: &mut [f32],
-) -> Played
-    requires { PlayerOk p × (length table.now ≡ 8194) × (length right.old ≡ length left.old) }
-    ensures { ((record { played = result; left = left.new; right = right.new }) ≡ played_by (lent_to (record { samples = samples.entry.now; frames = frames.now; table = table.now }) p) p left.old right.old) × PlayerOk result.player }
+// The first channel's frames.
+fn first_channel(frames: &[f32], s: Sample) -> &[f32]
+    ensures { result.now ≡ first_channel frames.now s }
 {
-    let s = sample_at(samples, p.sample);
-    let x = parts_of(s, frames.len());
-    let first = x.first;
-    let second = x.second;
-    let end = x.end;
-    play(
-        p,
-        &frames[first..second],
-        &frames[second..end],
-        table,
-        left,
-        right,
-    )
+    part(frames, s.start as usize, s.frames as usize)
 }
 
-// The slot of a player whose data ended, behind those before it.
-fn note_end(e: Slots, slot: u32, yes: bool) -> Slots
-    requires { e.count < 32 }
-    ensures { result ≡ noted yes slot e }
+// The second channel's frames, for a player of two. They follow the first's; a sample of one channel has none.
+fn second_channel(frames: &[f32], s: Sample, stereo: bool) -> Option<&[f32]>
+    ensures { option_map (λ x. x.now) result ≡ cond stereo (Some (second_channel frames.now s)) None }
 {
-    if yes {
-        let mut t = e;
-        let n = e.count;
-        t.slots[n] = slot;
-        t.count = n + 1;
-        return t;
+    if !stereo {
+        return None;
     }
-    e
-}
-
-// One whose step stays is not made anew.
-fn tuned(p: Player, x: Tune) -> Player
-    requires { PlayerOk p }
-    ensures { (result ≡ tuned_one x p) × PlayerOk result }
-{
-    if x.on {
-        let cold = set_pitch(p.cold, x.note_f, x.bend);
-        if cold.step != p.cold.step {
-            return with_cold(p, cold);
-        }
+    let n = s.frames as usize;
+    if s.channels == 2 {
+        return Some(part(frames, s.start as usize + n, n));
     }
-    p
+    Some(&[])
 }
 
-// A player is tuned, and plays its segment.
+// Tuned as the block has it.
+fn tune_one(p: &mut Player, tune: Option<Tune>)
+    ensures { p.new ≡ tuned_one tune p.old }
+{
+    if let Some(t) = tune {
+        retune_one(p, t);
+    }
+}
+
+// A player is tuned, and plays its segment with its sample's frames. Whether its data ended in it.
 fn sound_one(
-    p: Player,
-    x: Tune,
-    samples: &[u32],
-    frames: &[f32],
-    table: &[f32],
+    p: &mut Player,
+    tune: Option<Tune>,
+    sounds: Sounds<'_>,
     left: &mut [f32],
     right: &mut [f32],
-) -> Played
-    requires { PlayerOk p × (length table.now ≡ 8194) × (length right.old ≡ length left.old) }
-    ensures { ((record { played = result; left = left.new; right = right.new }) ≡ played_by (lent_to (record { samples = samples.entry.now; frames = frames.now; table = table.now }) (tuned_one x p)) (tuned_one x p) left.old right.old) × PlayerOk result.player }
+) -> bool
+    requires { PlayerOk p.old × (length right.old ≡ length left.old) }
+    ensures { ((record { played = record { player = p.new; ended = result }; left = left.new; right = right.new }) ≡ played_by (lent_to (record { samples = sounds.entry.samples.now; frames = sounds.entry.frames.now; table = sounds.entry.table.now }) (tuned_one tune p.old)) (tuned_one tune p.old) left.old right.old) × PlayerOk p.new }
 {
-    let q = tuned(p, x);
-    play_one(q, samples, frames, table, left, right)
+    tune_one(p, tune);
+    let s = sample_at(sounds.samples, p.sample.unwrap_or(SILENCE));
+    let lent = Lent {
+        a: first_channel(sounds.frames, s),
+        b: second_channel(sounds.frames, s, p.cold.stereo),
+        table: sounds.table,
+    };
+    let y = play(*p, lent, left, right);
+    *p = y.player;
+    y.ended
 }
 
 // Every player is tuned and plays its segment, one after the other, added to both outputs' parts. One walk does both, and notes what the
-// session has to hear: a walk of its own would pass all players by value again.
+// session has to hear. It goes by index: where it lends `t.players[k]`, or walks over a part of `t`, the proof lacks what `t` holds after.
+// Both outputs are two parameters: of a struct that lends a part of both no proof is made.
 pub fn sound_all(
     ps: Players,
-    x: Tune,
-    samples: &[u32],
-    frames: &[f32],
-    table: &[f32],
+    tune: Option<Tune>,
+    sounds: Sounds<'_>,
     left: &mut [f32],
     right: &mut [f32],
 ) -> Sounded
-    requires { PlayersOk ps × (length table.now ≡ 8194) × (length right.old ≡ length left.old) }
-    ensures { ((record { mixed = record { players = result.players; ended = result.ended }; left = left.new; right = right.new }) ≡ played_all (record { samples = samples.entry.now; frames = frames.now; table = table.now }) (tuned_all x ps) left.old right.old) × (result.over ≡ list_any is_over (sounding result.players)) × PlayersOk result.players }
+    requires { PlayersOk ps × (length right.old ≡ length left.old) }
+    ensures { ((record { mixed = record { players = result.players; ended = result.ended }; left = left.new; right = right.new }) ≡ played_all (record { samples = sounds.entry.samples.now; frames = sounds.entry.frames.now; table = sounds.entry.table.now }) (tuned_all tune ps) left.old right.old) × (result.over ≡ list_any is_over (sounding result.players)) × PlayersOk result.players }
 {
     let n = ps.count;
     let mut t = ps;
-    let mut ended = Slots {
-        slots: [0; 32],
-        count: 0,
-    };
+    let mut ended = NO_SLOTS;
     let mut over = false;
     for k in 0..n {
-        let p = t.players[k];
-        let y = sound_one(p, x, samples, frames, table, left, right);
-        let q = y.player;
-        t.players[k] = q;
-        if is_over(q) {
-            over = true;
+        let mut p = t.players[k];
+        let slot = p.slot;
+        if sound_one(&mut p, tune, sounds, left, right) {
+            push_slot(&mut ended, slot);
         }
-        ended = note_end(ended, p.slot, y.ended);
+        over |= is_over(&p);
+        t.players[k] = p;
     }
     Sounded {
         players: t,

@@ -88,24 +88,16 @@ module _ (b : BoundProgram) (ws ss : List ℕ) (frames table : ℕ) where
     pub wrong-counts : counts_ok ws ss ≡ false → false ≡ program_ok b ws ss frames table
     wrong-counts e = after right (no-and _ e) ∙ sym split
 
-    n-is : region_count ws ≡ b.regions
-    n-is = eqb-true (region_count ws) b.regions (every-at sizes 0 right)
-
     m-is : sample_count ss ≡ b.samples
     m-is = eqb-true (sample_count ss) b.samples (every-at sizes 1 right)
 
     module _ (ok : counts_ok ws ss ≡ true) where
-      pub counted : list_all (counts_in ws) (range_with_len 0 b.regions) ≡ true
-      counted = ap (λ n. list_all (counts_in ws) (range_with_len 0 n)) (sym n-is) ∙ few-parts ws ss ok
-
-      module _ (r : Bool) (is : r ≡ list_all (region_in ws b.samples) (range_with_len 0 b.regions)) where
+      module _ (r : Bool) (is : r ≡ list_all (region_in ws b.samples) (range_with_len 0 (region_count ws))) where
         regions-are : r ≡ list_all (region_in ws (sample_count ss)) (range_with_len 0 (region_count ws))
-        regions-are =
-            is ∙ ap (λ m. list_all (region_in ws m) (range_with_len 0 b.regions)) (sym m-is) ∙ ap (λ n. list_all (region_in ws (sample_count ss)) (range_with_len 0 n)) (sym n-is)
+        regions-are = is ∙ ap (λ m. list_all (region_in ws m) (range_with_len 0 (region_count ws))) (sym m-is)
 
         pub wrong-region : r ≡ false → r ≡ program_ok b ws ss frames table
         wrong-region e = e ∙ after right (after ok (no-and _ (sym regions-are ∙ e))) ∙ sym split
 
-        pub last-test : r ≡ true → (t : Bool) → t ≡ list_all (shape_in ss b.frames) (range_with_len 0 b.samples) → t ≡ program_ok b ws ss frames table
-        last-test e t that =
-            after right (after ok (after (sym regions-are ∙ e) (final (that ∙ ap (λ m. list_all (shape_in ss b.frames) (range_with_len 0 m)) (sym m-is))))) ∙ sym split
+        pub last-test : r ≡ true → (t : Bool) → t ≡ list_all (shape_in ss b.frames) (range_with_len 0 (sample_count ss)) → t ≡ program_ok b ws ss frames table
+        last-test e t that = after right (after ok (after (sym regions-are ∙ e) (final that))) ∙ sym split

@@ -1,4 +1,5 @@
 pub mod Words
+pub mod Parts
 pub mod Finite
 pub mod Checks
 pub mod Curves

@@ -1,8 +1,9 @@
 -- Laws of a region's words, and of a sample's. Assumes nothing.
-use Rattle.std.proofs.Common.{◌≡◌, ℕ, zero, suc, ◌+◌, ◌*◌, ◌/◌, ◌<◌, ◌≤◌, List, [], ◌∷◌, length, take, drop, replicate, get_or, refl, ap, ◌∙◌, cond, Bool, true, false, Option, None, Some, arith}
+use Rattle.std.proofs.Common.{◌≡◌, ℕ, zero, suc, ◌+◌, ◌*◌, ◌/◌, ◌<◌, ◌≤◌, List, [], ◌∷◌, length, take, drop, replicate, get_or, refl, sym, ap, ◌∙◌, zero-add, map, cond, Bool, true, false, Option, None, Some, arith}
 use Rattle.std.proofs.lemmas.List.{drop-drop}
 use Rattle.std.specs.Option.{unwrap_or, option_map, option_copied}
 use Rattle.std.specs.Simd.{first_chunks}
+use Rattle.std.specs.List.{range_with_len}
 use denote.Ref.{Bor}
 use lib.Dec.{leb}
 use borrow.Author.Tests.{leb-true, leb-false}
@@ -63,3 +64,17 @@ sample-is ss j w is = by-case (leb (j * 4 + 4) (length ss)) refl where
       let h = leb-false _ _ e in
       let none : w ≡ 0 ∷ 0 ∷ 0 ∷ 0 ∷ [] = is ∙ part-past 4 (length ss / 4) j ss (0 ∷ 0 ∷ 0 ∷ 0 ∷ []) (omega arith) in
       rw none refl
+
+-- a list of n elements, of which the j-th is f at i + j
+made-from : {A : Type 0} (f : ℕ → A) (ys : List A) (i n : ℕ) → length ys ≡ n → ((j : ℕ) (d : A) → j < n → get_or ys j d ≡ f (i + j)) → ys ≡ map f (range_with_len i n)
+made-from f [] i zero e h = refl
+made-from f [] i (suc n) e h = absurd (omega arith)
+made-from f (y ∷ ys) i zero e h = absurd (omega arith)
+made-from f (y ∷ ys) i (suc n) e h =
+    let first : y ≡ f i = h 0 y (omega arith) ∙ ap f (add-zero i) in
+    let rest : ys ≡ map f (range_with_len (i + 1) n) =
+    made-from f ys (i + 1) n (omega arith) (λ j d l. h (suc j) d (omega arith) ∙ ap f (let q : i + suc j ≡ i + 1 + j = omega arith in q)) in
+    cc
+
+pub made-by : {A : Type 0} (f : ℕ → A) (ys : List A) (n : ℕ) → length ys ≡ n → ((i : ℕ) (d : A) → i < n → get_or ys i d ≡ f i) → ys ≡ map f (range_with_len 0 n)
+made-by f ys n e h = made-from f ys 0 n e (λ j d l. h j d l ∙ ap f (sym (zero-add j)))

@@ -1,5 +1,5 @@
 -- Binding: 01's tests 1, 2, 3 and 4 in that order, and what is bound. Definitions only.
-use Rattle.std.specs.Prelude.{ℕ, ◌/◌, Bool, not, cond, ◌&&◌, List, [], ◌∷◌, ◌++◌, find, length, leb, eqb, Float, Option, Result, Ok, Err}
+use Rattle.std.specs.Prelude.{ℕ, ◌/◌, Bool, not, cond, ◌&&◌, List, [], ◌∷◌, ◌++◌, find, length, leb, eqb, Float, Option, Some, None, Result, Ok, Err}
 use Rattle.std.specs.List.{list_all, range_with_len}
 use Rattle.std.specs.Option.{option_map_or}
 use Rattle.program.specs.declared.bind.BoundProgram.{BoundProgram}
@@ -52,6 +52,19 @@ answer_of (Err Counts) = refused 1 []
 answer_of (Err (BadRegion i)) = refused 2 (i ∷ [])
 answer_of (Err (BadSample j)) = refused 3 (j ∷ [])
 answer_of (Err BadTable) = refused 4 []
+
+-- the two parts of that
+abbrev pub error_number : BindError → ℕ
+error_number Counts = 1
+error_number (BadRegion i) = 2
+error_number (BadSample j) = 3
+error_number BadTable = 4
+
+abbrev pub error_part : BindError → Option ℕ
+error_part Counts = None
+error_part (BadRegion i) = Some i
+error_part (BadSample j) = Some j
+error_part BadTable = None
 
 abbrev pub bound_of : List ℕ → List ℕ → List Float → BoundProgram
 bound_of ws ss fs = record { regions = region_count ws; samples = sample_count ss; frames = length fs }

@@ -1,10 +1,8 @@
 -- Lookup in a bound program: the Rust's `regions_for_key`, `sample_of` and `has_release_for`. Definitions only.
 use Rattle.program.specs.declared.sample.Sample.{Sample}
-use Rattle.std.specs.Prelude.{ℕ, ◌-◌, min, Bool, true, false, cond, ◌&&◌, List, filter, slice_get, ltb, leb, None, Option, Some, option_and_then}
+use Rattle.std.specs.Prelude.{ℕ, ◌-◌, min, Bool, cond, ◌&&◌, List, filter, slice_get, ltb, leb, None, Option, Some, option_and_then}
 use Rattle.std.specs.List.{list_any, range_with_len}
-use Rattle.program.specs.declared.region.Trigger.{Trigger}
-use Rattle.program.specs.declared.region.Trigger.TheVariants.{Attack, Release, ReleaseKey, First, Legato}
-use Rattle.program.specs.Region.{region_at}
+use Rattle.program.specs.Region.{region_at, is_release}
 use Rattle.program.specs.Sample.{sample_at}
 use Rattle.program.specs.Bind.{sample_count}
 
@@ -21,13 +19,6 @@ regions_from ws n key i = filter (holds_key ws key) (range_with_len i (n - i))
 
 abbrev pub first_of : List ℕ → Option ℕ
 first_of is = slice_get is 0
-
-abbrev pub is_release : Trigger → Bool
-is_release Attack = false
-is_release Release = true
-is_release ReleaseKey = true
-is_release First = false
-is_release Legato = false
 
 -- region i is a release region whose velocity window holds the velocity
 abbrev pub releases : List ℕ → ℕ → ℕ → Bool

@@ -1,6 +1,8 @@
 -- A region's words and the region that they mean: docs/PROGRAM.md's table. Definitions only.
 use Rattle.program.specs.declared.region.VelCrossfade.{VelCrossfade}
-use Rattle.std.specs.Prelude.{ℕ, zero, suc, ◌+◌, ◌*◌, min, not, cond, List, [], ◌∷◌, length, get_or, take, drop, replicate, leb, eqb, ℤ, Float, None, Option, Some}
+use Rattle.program.specs.declared.region.XfCurve.{XfCurve}
+use Rattle.program.specs.declared.region.XfCurve.TheVariants.{Gain, Power}
+use Rattle.std.specs.Prelude.{ℕ, zero, suc, ◌+◌, ◌*◌, min, Bool, true, false, cond, List, [], ◌∷◌, length, get_or, take, drop, replicate, leb, eqb, ℤ, Float, None, Option, Some}
 use Rattle.std.specs.Int.{w32, cast_signed}
 use Rattle.std.specs.Float.{binary32}
 use Rattle.std.specs.Float.Ieee.{of_bits}
@@ -99,12 +101,24 @@ rand_of p lo hi = maybe_of p (record { lo = float_of lo; hi = float_of hi })
 abbrev pub sample_named : ℕ → Option ℕ
 sample_named w = cond (eqb w 0xffff_ffff) None (Some w)
 
+-- a region that starts when its note ends
+abbrev pub is_release : Trigger → Bool
+is_release Attack = false
+is_release Release = true
+is_release ReleaseKey = true
+is_release First = false
+is_release Legato = false
+
 -- the k-th word of a region's words r, and the single there
 abbrev pub word : List ℕ → ℕ → ℕ
 word r k = get_or r k 0
 
 abbrev pub single : List ℕ → ℕ → Float
 single r k = float_of (word r k)
+
+-- any number but 0 is the `gain` curve
+abbrev pub xf_curve_of : ℕ → XfCurve
+xf_curve_of w = cond (eqb w 0) Power Gain
 
 unfoldable pub crossfade_of : List ℕ → Option VelCrossfade
 crossfade_of r =
@@ -113,7 +127,7 @@ crossfade_of r =
       in_hi = single r 35;
       out_lo = single r 36;
       out_hi = single r 37;
-      gain_curve = not (eqb (word r 38) 0);
+      curve = xf_curve_of (word r 38);
     })
 
 unfoldable pub envelope_of : List ℕ → Envelope

@@ -1,12 +1,12 @@
 // Binding a program: 01's tests 1 to 4, and the program's share of its test 8.
-ghost use Rattle.std.specs.Prelude.{◌≡◌, ◌/◌, true, find, not};
+ghost use Rattle.std.specs.Prelude.{◌≡◌, ◌/◌, ◌<◌, true, find, not, IfSome};
 ghost use Rattle.std.specs.List.{list_all, range_with_len};
 ghost use Rattle.program.specs.Valid.{every};
-ghost use Rattle.program.specs.Bind.{counts_in, region_in, sample_in, shape_in, size_tests, counts_ok, table_ok, answer_of, binding, program_ok};
+ghost use Rattle.program.specs.Bind.{region_count, sample_count, counts_in, region_in, bad_sample, shape_in, size_tests, counts_ok, table_ok, answer_of, binding, error_number, error_part, program_ok};
 
 use super::check::{counts_in, region_ok};
-use super::region::{REGION_WORDS, words_of};
-use super::sample::{SAMPLE_WORDS, all_finite, sample_at, sample_ok, shape_ok};
+use super::region::REGION_WORDS;
+use super::sample::{SAMPLE_WORDS, all_finite, sample_of, sample_ok, shape_ok};
 
 // Regions of a program, and samples.
 const MAX_PARTS: usize = 256;
@@ -15,7 +15,7 @@ const TABLE_LEN: usize = 8194;
 
 // What binding makes of a program: how many regions, samples and frames it has. Nothing else is kept, so that a block finds again by the
 // same tests whether a bound program belongs to what it is lent.
-#[derive(Clone, Copy)]
+#[derive(Clone, Copy, PartialEq, Eq)]
 pub struct BoundProgram {
     pub regions: u32,
     pub samples: u32,
@@ -31,6 +31,30 @@ pub enum BindError {
     BadTable,
 }
 
+impl BindError {
+    // 01's number of it, 1 to 4.
+    pub fn number(self) -> u64
+        ensures { result ≡ error_number self }
+    {
+        match self {
+            BindError::Counts => 1,
+            BindError::BadRegion(_) => 2,
+            BindError::BadSample(_) => 3,
+            BindError::BadTable => 4,
+        }
+    }
+
+    // The region or sample that goes with the number.
+    pub fn part(self) -> Option<u32>
+        ensures { result ≡ error_part self }
+    {
+        match self {
+            BindError::BadRegion(i) | BindError::BadSample(i) => Some(i),
+            BindError::Counts | BindError::BadTable => None,
+        }
+    }
+}
+
 #[tactic(auto, unfolding(crate::specs::Bind::table_ok))]
 fn table_ok(table: &[f32]) -> bool
     ensures { result ≡ table_ok table.now }
@@ -43,28 +67,34 @@ fn table_ok(table: &[f32]) -> bool
 fn counts_ok(words: &[u32], samples: &[u32]) -> bool
     ensures { result ≡ counts_ok words.now samples.now }
 {
-    let n = words.len() / REGION_WORDS;
-    n <= MAX_PARTS
+    words.len() / REGION_WORDS <= MAX_PARTS
         && samples.len() / SAMPLE_WORDS <= MAX_PARTS
-        && (0..n as u32).all(|i| counts_in(words_of(words, i)))
+        && words.as_chunks().0.iter().all(counts_in)
 }
 
-// The first of n regions, which pass test 1, that test 2 refuses where there are m samples.
-fn first_bad_region(words: &[u32], n: u32, m: u32) -> Option<u32>
-    requires { list_all (counts_in words.now) (range_with_len 0 n) ≡ true }
-    ensures { result ≡ find (λ i. not (region_in words.now m i)) (range_with_len 0 n) }
+// The first of the regions, which pass test 1, that test 2 refuses where there are m samples.
+fn first_bad_region(words: &[u32], m: u32) -> Option<usize>
+    requires { list_all (counts_in words.now) (range_with_len 0 (region_count words.now)) ≡ true }
+    ensures first { result ≡ find (λ i. not (region_in words.now m i)) (range_with_len 0 (region_count words.now)) }
+    ensures there { IfSome result (λ i. i < region_count words.now) }
 {
-    (0..n).find(|i| !region_ok(words_of(words, *i), m))
+    words.as_chunks().0.iter().position(|r| !region_ok(r, m))
 }
 
-// The first of n samples that test 3 refuses.
-fn first_bad_sample(samples: &[u32], frames: &[f32], n: u32) -> Option<u32>
-    ensures { result ≡ find (λ j. not (sample_in samples.now frames.now j)) (range_with_len 0 n) }
+// The first of the samples that test 3 refuses.
+fn first_bad_sample(samples: &[u32], frames: &[f32]) -> Option<usize>
+    ensures first { result ≡ bad_sample samples.now frames.now }
+    ensures there { IfSome result (λ j. j < sample_count samples.now) }
 {
-    (0..n).find(|j| !sample_ok(sample_at(samples, *j), frames))
+    samples
+        .as_chunks()
+        .0
+        .iter()
+        .position(|s| !sample_ok(sample_of(s), frames))
 }
 
-// Binds a program: the regions' words, the samples' words, the frames and the sinc table, which C lends one by one.
+// Binds a program: the regions' words, the samples' words, the frames and the sinc table, which C lends one by one (docs/PROGRAM.md). A
+// struct of the four would be made for this call alone: a block's test has two of them and two lengths, a lookup one.
 #[tactic(auto, unfolding(crate::specs::Bind::binding))]
 pub fn bind(
     words: &[u32],
@@ -79,11 +109,11 @@ pub fn bind(
     }
     let n = (words.len() / REGION_WORDS) as u32;
     let m = (samples.len() / SAMPLE_WORDS) as u32;
-    if let Some(i) = first_bad_region(words, n, m) {
-        return Err(BindError::BadRegion(i));
+    if let Some(i) = first_bad_region(words, m) {
+        return Err(BindError::BadRegion(i as u32));
     }
-    if let Some(j) = first_bad_sample(samples, frames, m) {
-        return Err(BindError::BadSample(j));
+    if let Some(j) = first_bad_sample(samples, frames) {
+        return Err(BindError::BadSample(j as u32));
     }
     if !table_ok(table) {
         return Err(BindError::BadTable);
@@ -95,19 +125,23 @@ pub fn bind(
     })
 }
 
-// Whether n regions, which pass test 1, pass test 2 where there are m samples.
-fn regions_ok(words: &[u32], n: u32, m: u32) -> bool
-    requires { list_all (counts_in words.now) (range_with_len 0 n) ≡ true }
-    ensures { result ≡ list_all (region_in words.now m) (range_with_len 0 n) }
+// Whether the regions, which pass test 1, pass test 2 where there are m samples.
+fn regions_ok(words: &[u32], m: u32) -> bool
+    requires { list_all (counts_in words.now) (range_with_len 0 (region_count words.now)) ≡ true }
+    ensures { result ≡ list_all (region_in words.now m) (range_with_len 0 (region_count words.now)) }
 {
-    (0..n).all(|i| region_ok(words_of(words, i), m))
+    words.as_chunks().0.iter().all(|r| region_ok(r, m))
 }
 
-// Whether n samples pass test 3 without a look at the frames, of which there are `total`.
-fn shapes_ok(samples: &[u32], n: u32, total: usize) -> bool
-    ensures { result ≡ list_all (shape_in samples.now total) (range_with_len 0 n) }
+// Whether the samples pass test 3 without a look at the frames, of which there are `total`.
+fn shapes_ok(samples: &[u32], total: usize) -> bool
+    ensures { result ≡ list_all (shape_in samples.now total) (range_with_len 0 (sample_count samples.now)) }
 {
-    (0..n).all(|j| shape_ok(sample_at(samples, j), total))
+    samples
+        .as_chunks()
+        .0
+        .iter()
+        .all(|s| shape_ok(sample_of(s), total))
 }
 
 // Whether as many words of regions and samples are lent as b has, and no fewer frames and entries of the table.
@@ -137,5 +171,5 @@ pub fn program_ok(
     if !counts_ok(words, samples) {
         return false;
     }
-    regions_ok(words, b.regions, b.samples) && shapes_ok(samples, b.samples, b.frames)
+    regions_ok(words, b.samples) && shapes_ok(samples, b.frames)
 }

@@ -4,7 +4,10 @@ ghost use Rattle.std.specs.List.{list_all};
 ghost use Rattle.program.specs.Region.{byte_of, float_of, signed_of, word, sample_named, region_of};
 ghost use Rattle.program.specs.Valid.{every, all_finite, window_tests, keys_tests, sample_known, loop_in_order, seq_in_turn, constants, rand_numbers, crossfade_numbers, filters_finite, bands_finite, not_above, within, times_tests, transpose_tests, pitch_tests, point_tests, limit_tests, chosen_tests, number_tests, place_tests, valid_region, counts_tests};
 
-use super::region::{REGION_WORDS, byte_of, float_of, sample_named, signed_of};
+use super::region::{
+    REGION_WORDS, byte_of, crossfade_of, float_of, loop_points_of, rand_of, sample_named, seq_of,
+    signed_of,
+};
 
 // Whether the words are finite singles: the largest magnitude decides, so that the loop has no branch.
 fn all_finite(words: &[u32]) -> bool
@@ -50,28 +53,30 @@ fn sample_ok(s: u32, n: u32) -> bool
 fn loop_ok(r: &[u32; REGION_WORDS]) -> bool
     ensures { result ≡ loop_in_order (region_of r.now).play.loop_points }
 {
-    r[12] == 0 || r[13] <= r[14]
+    loop_points_of(r).is_none_or(|points| points.start <= points.end)
 }
 
 #[tactic(auto, unfolding(crate::specs::Region::region_of, crate::specs::Region::choice_of))]
 fn seq_ok(r: &[u32; REGION_WORDS]) -> bool
     ensures { result ≡ seq_in_turn (region_of r.now).chosen.seq }
 {
-    r[15] == 0 || (0 < r[17] && r[17] <= r[16])
+    seq_of(r).is_none_or(|seq| (1..=seq.length).contains(&seq.position))
 }
 
 #[tactic(auto, using(crate::proofs::Checks::rand_are), unfolding(crate::specs::Region::region_of, crate::specs::Region::choice_of))]
 fn rand_ok(r: &[u32; REGION_WORDS]) -> bool
     ensures { result ≡ all_finite (rand_numbers (region_of r.now).chosen.rand) }
 {
-    r[30] == 0 || all_finite(&r[31..33])
+    rand_of(r).is_none_or(|rand| rand.lo.is_finite() && rand.hi.is_finite())
 }
 
 #[tactic(auto, using(crate::proofs::Checks::crossfade_are), unfolding(crate::specs::Region::region_of, crate::specs::Region::level_of, crate::specs::Region::crossfade_of))]
 fn crossfade_ok(r: &[u32; REGION_WORDS]) -> bool
     ensures { result ≡ all_finite (crossfade_numbers (region_of r.now).level.xf_vel) }
 {
-    r[33] == 0 || all_finite(&r[34..38])
+    crossfade_of(r).is_none_or(|x| {
+        x.in_lo.is_finite() && x.in_hi.is_finite() && x.out_lo.is_finite() && x.out_hi.is_finite()
+    })
 }
 
 // Whether the first `count` filters have finite numbers, which stand behind a filter's kind and key.

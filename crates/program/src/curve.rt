@@ -1,5 +1,5 @@
 // A region's velocity curve: an entry of the Rust's `velcurve_table`, found in one pass over the points.
-ghost use Rattle.std.specs.Prelude.{◌≡◌, ◌&&◌, ◌≤◌, fold, min, leb};
+ghost use Rattle.std.specs.Prelude.{◌≡◌, ◌≤◌, fold, min};
 ghost use Rattle.std.specs.List.{zip};
 ghost use Rattle.program.specs.Curve.{points_of, point_of_words, near_step, near_of, near_first, linear, velcurve_at};
 
@@ -32,13 +32,6 @@ fn point_of(velocity: u32, gain: u32) -> Point
     }
 }
 
-// Whether a <= b <= c.
-fn between(a: u8, b: u8, c: u8) -> bool
-    ensures { result ≡ (leb a b && leb b c) }
-{
-    a <= b && b <= c
-}
-
 // With the point in the place of those that it is nearer than.
 #[tactic(auto, unfolding(crate::specs::Curve::near_step))]
 fn near_step(v: u8, s: Near, p: Point) -> Near
@@ -46,12 +39,12 @@ fn near_step(v: u8, s: Near, p: Point) -> Near
 {
     let Near { lo, hi } = s;
     Near {
-        lo: if between(lo.velocity, p.velocity, v) {
+        lo: if (lo.velocity..=v).contains(&p.velocity) {
             p
         } else {
             lo
         },
-        hi: if between(v, p.velocity, hi.velocity) {
+        hi: if (v..=hi.velocity).contains(&p.velocity) {
             p
         } else {
             hi

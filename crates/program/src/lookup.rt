@@ -1,9 +1,11 @@
 // Lookup in a bound program: the Rust's `regions_for_key`, `sample_of` and `has_release_for`.
+// Each takes the words and a region's number, which the crates above have apart: methods of a struct of the words would be nine functions
+// more behind these, or `Regions { words }` at each call.
 ghost use Rattle.std.specs.Prelude.{◌≡◌};
 ghost use Rattle.program.specs.Region.{region_at};
-ghost use Rattle.program.specs.Lookup.{holds_key, regions_from, first_of, is_release, releases, has_release_for, sample_of_region};
+ghost use Rattle.program.specs.Lookup.{holds_key, regions_from, first_of, releases, has_release_for, sample_of_region};
 
-use super::region::{Choice, Trigger, Window, choice_of, sample_named, window_of, words_of};
+use super::region::{Choice, Window, choice_of, sample_named, window_of, words_of};
 use super::sample::{SAMPLE_WORDS, Sample, sample_at};
 
 // Region i's windows, without the rest of the region.
@@ -35,21 +37,15 @@ pub fn holds_key(words: &[u32], key: u8, i: u32) -> bool
     ensures { result ≡ holds_key words.now key i }
 {
     let w = window_at(words, i);
-    let k = key.min(127);
-    w.lokey <= k && k <= w.hikey
+    (w.lokey..=w.hikey).contains(&key.min(127))
 }
 
-// The next of n regions, from `from` on, whose key window holds the key. Stepping it from 0 meets the Rust's `regions_for_key` in order.
+// The next of n regions, from `from` on, whose key window holds the key. n is the caller's: past the regions that are there a number means
+// a region of zeros, which no slice of them would hold. Stepping it from 0 meets the Rust's `regions_for_key` in order.
 pub fn next_for_key(words: &[u32], n: u32, key: u8, from: u32) -> Option<u32>
     ensures { result ≡ first_of (regions_from words.now n key from) }
 {
     (from..n).find(|i| holds_key(words, key, *i))
-}
-
-fn is_release(t: Trigger) -> bool
-    ensures { result ≡ is_release t }
-{
-    matches!(t, Trigger::Release | Trigger::ReleaseKey)
 }
 
 // Whether region i is a release region whose velocity window holds the velocity.
@@ -57,7 +53,7 @@ fn releases_at(words: &[u32], vel: u8, i: u32) -> bool
     ensures { result ≡ releases words.now vel i }
 {
     let w = window_at(words, i);
-    is_release(choice_at(words, i).trigger) && w.lovel <= vel && vel <= w.hivel
+    choice_at(words, i).trigger.is_release() && (w.lovel..=w.hivel).contains(&vel)
 }
 
 // Whether some release region of n could start for the key and the velocity.

@@ -1,15 +1,16 @@
 // A region's 392 words and the region that they mean. Names and order of the enums are those of the Rust's `program.rs`.
 ghost use Rattle.std.specs.Prelude.{◌≡◌, ◌+◌, ◌≤◌, ◌<◌, get_or};
-ghost use Rattle.program.specs.Region.{word, single, float_of, signed_of, byte_of, maybe_of, sample_named, crossfade_of, envelope_of, filter_of, filters_of, band_of, bands_of, window_of, pitch_of, playback_of, level_of, choice_of, choke_of, region_of, words_of, region_at};
+ghost use Rattle.program.specs.Region.{word, loop_points_of, seq_of, rand_of, float_of, signed_of, byte_of, maybe_of, sample_named, is_release, xf_curve_of, crossfade_of, envelope_of, filter_of, filters_of, band_of, bands_of, window_of, pitch_of, playback_of, level_of, choice_of, choke_of, region_of, words_of, region_at};
 
 use exact::order::from_bits_f32;
+use std::array;
 
 // Words of one region.
 pub const REGION_WORDS: usize = 392;
 // The word in a sample's place of a region that plays nothing.
 pub const SILENCE: u32 = 0xffff_ffff;
 
-#[derive(Clone, Copy)]
+#[derive(Clone, Copy, PartialEq, Eq)]
 pub enum LoopMode {
     NoLoop,
     OneShot,
@@ -34,7 +35,16 @@ pub enum Trigger {
     Legato,
 }
 
-#[derive(Clone, Copy)]
+impl Trigger {
+    // Whether the region starts when the note ends.
+    pub fn is_release(self) -> bool
+        ensures { result ≡ is_release self }
+    {
+        matches!(self, Trigger::Release | Trigger::ReleaseKey)
+    }
+}
+
+#[derive(Clone, Copy, PartialEq, Eq)]
 pub enum OffMode {
     Fast,
     Normal,
@@ -86,14 +96,20 @@ pub struct Rand {
     pub hi: f32,
 }
 
+// `xf_velcurve`.
+#[derive(Clone, Copy)]
+pub enum XfCurve {
+    Gain,
+    Power,
+}
+
 #[derive(Clone, Copy)]
 pub struct VelCrossfade {
     pub in_lo: f32,
     pub in_hi: f32,
     pub out_lo: f32,
     pub out_hi: f32,
-    // True for the `gain` curve, false for `power`.
-    pub gain_curve: bool,
+    pub curve: XfCurve,
 }
 
 #[derive(Clone, Copy)]
@@ -159,7 +175,8 @@ pub struct Playback {
     pub delay_s: f32,
 }
 
-// How loud and where: decibels and percent. The velocity points stay in the words.
+// How loud and where: decibels and percent. The velocity points stay in the words, of which `velcurve` reads two runs at one note-on: a slice
+// of them would be two, and give `Level` and `Region` a lifetime.
 #[derive(Clone, Copy)]
 pub struct Level {
     pub volume_db: f32,
@@ -191,7 +208,10 @@ pub struct Choke {
     pub polyphony: Option<u32>,
 }
 
-// The Rust's `Region`, its fields in groups. A `Vec` is a count and places. A region without a sample plays nothing.
+// The Rust's `Region`, its fields in groups. A region without a sample plays nothing. A `Vec` is a count and six places, as the words have
+// them, for there is no heap: a list type of both would be packed here at each start and unpacked by its one reader, who takes the count's
+// first of the places. The ten conversions are functions by name: ten `impl From`s would hold the same bodies, and `r.into()` beside each
+// field would not say of what.
 #[derive(Clone, Copy)]
 pub struct Region {
     pub sample: Option<u32>,
@@ -292,32 +312,26 @@ pub(crate) fn sample_named(w: u32) -> Option<u32>
     (w != SILENCE).then_some(w)
 }
 
-// The single at word `k`. A word's place stands once, beside its field, as in docs/PROGRAM.md: a name for it would say the field again.
-fn float_at(r: &[u32; REGION_WORDS], k: usize) -> f32
-    requires { k < 392 }
-    ensures { result ≡ single r.now k }
+fn xf_curve_of(w: u32) -> XfCurve
+    ensures { result ≡ xf_curve_of w }
 {
-    float_of(r[k])
-}
-
-// The byte at word `k`.
-fn byte_at(r: &[u32; REGION_WORDS], k: usize) -> u8
-    requires { k < 392 }
-    ensures { result ≡ byte_of (word r.now k) }
-{
-    byte_of(r[k])
+    if w != 0 {
+        XfCurve::Gain
+    } else {
+        XfCurve::Power
+    }
 }
 
 #[tactic(auto, unfolding(crate::specs::Region::crossfade_of))]
-fn crossfade_of(r: &[u32; REGION_WORDS]) -> Option<VelCrossfade>
+pub(crate) fn crossfade_of(r: &[u32; REGION_WORDS]) -> Option<VelCrossfade>
     ensures { result ≡ crossfade_of r.now }
 {
     let x = VelCrossfade {
-        in_lo: float_at(r, 34),
-        in_hi: float_at(r, 35),
-        out_lo: float_at(r, 36),
-        out_hi: float_at(r, 37),
-        gain_curve: r[38] != 0,
+        in_lo: float_of(r[34]),
+        in_hi: float_of(r[35]),
+        out_lo: float_of(r[36]),
+        out_hi: float_of(r[37]),
+        curve: xf_curve_of(r[38]),
     };
     maybe_of(r[33], x)
 }
@@ -327,13 +341,13 @@ fn envelope_of(r: &[u32; REGION_WORDS]) -> Envelope
     ensures { result ≡ envelope_of r.now }
 {
     Envelope {
-        delay: float_at(r, 43),
-        attack: float_at(r, 44),
-        hold: float_at(r, 45),
-        decay: float_at(r, 46),
-        sustain: float_at(r, 50),
-        release: float_at(r, 47),
-        start: float_at(r, 51),
+        delay: float_of(r[43]),
+        attack: float_of(r[44]),
+        hold: float_of(r[45]),
+        decay: float_of(r[46]),
+        sustain: float_of(r[50]),
+        release: float_of(r[47]),
+        start: float_of(r[51]),
     }
 }
 
@@ -345,12 +359,12 @@ fn filter_of(r: &[u32; REGION_WORDS], at: usize) -> Filter
 {
     Filter {
         kind: named(&FILTER_KINDS, r[at], FilterKind::Lpf1p),
-        cutoff: float_at(r, at + 2),
-        resonance: float_at(r, at + 3),
-        keytrack: float_at(r, at + 4),
-        keycenter: byte_at(r, at + 1),
-        veltrack: float_at(r, at + 5),
-        gain: float_at(r, at + 6),
+        cutoff: float_of(r[at + 2]),
+        resonance: float_of(r[at + 3]),
+        keytrack: float_of(r[at + 4]),
+        keycenter: byte_of(r[at + 1]),
+        veltrack: float_of(r[at + 5]),
+        gain: float_of(r[at + 6]),
     }
 }
 
@@ -358,14 +372,7 @@ fn filter_of(r: &[u32; REGION_WORDS], at: usize) -> Filter
 fn filters_of(r: &[u32; REGION_WORDS]) -> [Filter; 6]
     ensures { result ≡ filters_of r.now }
 {
-    [
-        filter_of(r, 58),
-        filter_of(r, 65),
-        filter_of(r, 72),
-        filter_of(r, 79),
-        filter_of(r, 86),
-        filter_of(r, 93),
-    ]
+    array::from_fn(|k| filter_of(r, 58 + 7 * k))
 }
 
 // The equaliser band whose six words begin at `at`.
@@ -376,11 +383,11 @@ fn band_of(r: &[u32; REGION_WORDS], at: usize) -> EqBand
 {
     EqBand {
         kind: named(&EQ_KINDS, r[at], EqKind::Peak),
-        freq: float_at(r, at + 1),
-        bw: float_at(r, at + 2),
-        gain: float_at(r, at + 3),
-        vel2freq: float_at(r, at + 4),
-        vel2gain: float_at(r, at + 5),
+        freq: float_of(r[at + 1]),
+        bw: float_of(r[at + 2]),
+        gain: float_of(r[at + 3]),
+        vel2freq: float_of(r[at + 4]),
+        vel2gain: float_of(r[at + 5]),
     }
 }
 
@@ -388,14 +395,7 @@ fn band_of(r: &[u32; REGION_WORDS], at: usize) -> EqBand
 fn bands_of(r: &[u32; REGION_WORDS]) -> [EqBand; 6]
     ensures { result ≡ bands_of r.now }
 {
-    [
-        band_of(r, 100),
-        band_of(r, 106),
-        band_of(r, 112),
-        band_of(r, 118),
-        band_of(r, 124),
-        band_of(r, 130),
-    ]
+    array::from_fn(|k| band_of(r, 100 + 6 * k))
 }
 
 #[tactic(auto, unfolding(crate::specs::Region::window_of))]
@@ -403,10 +403,10 @@ pub(crate) fn window_of(r: &[u32; REGION_WORDS]) -> Window
     ensures { result ≡ window_of r.now }
 {
     Window {
-        lokey: byte_at(r, 1),
-        hikey: byte_at(r, 2),
-        lovel: byte_at(r, 3),
-        hivel: byte_at(r, 4),
+        lokey: byte_of(r[1]),
+        hikey: byte_of(r[2]),
+        lovel: byte_of(r[3]),
+        hivel: byte_of(r[4]),
     }
 }
 
@@ -415,13 +415,24 @@ fn pitch_of(r: &[u32; REGION_WORDS]) -> Pitch
     ensures { result ≡ pitch_of r.now }
 {
     Pitch {
-        pitch_keycenter: byte_at(r, 5),
-        pitch_keytrack: float_at(r, 39),
-        tune_cents: float_at(r, 40),
+        pitch_keycenter: byte_of(r[5]),
+        pitch_keytrack: float_of(r[39]),
+        tune_cents: float_of(r[40]),
         transpose: signed_of(r[6]),
-        bend_up_cents: float_at(r, 41),
-        bend_down_cents: float_at(r, 42),
+        bend_up_cents: float_of(r[41]),
+        bend_down_cents: float_of(r[42]),
     }
+}
+
+// A word's place stands once, beside its field, as in docs/PROGRAM.md: a name for it would say the field again.
+pub(crate) fn loop_points_of(r: &[u32; REGION_WORDS]) -> Option<LoopPoints>
+    ensures { result ≡ loop_points_of (word r.now 12) (word r.now 13) (word r.now 14) }
+{
+    let points = LoopPoints {
+        start: r[13],
+        end: r[14],
+    };
+    maybe_of(r[12], points)
 }
 
 #[tactic(auto, unfolding(crate::specs::Region::playback_of))]
@@ -433,14 +444,8 @@ fn playback_of(r: &[u32; REGION_WORDS]) -> Playback
         end_frames: maybe_of(r[8], r[9]),
         loop_mode: named(&LOOP_MODES, r[10], LoopMode::NoLoop),
         loop_source: named(&LOOP_SOURCES, r[11], LoopSource::None),
-        loop_points: maybe_of(
-            r[12],
-            LoopPoints {
-                start: r[13],
-                end: r[14],
-            },
-        ),
-        delay_s: float_at(r, 49),
+        loop_points: loop_points_of(r),
+        delay_s: float_of(r[49]),
     }
 }
 
@@ -449,15 +454,35 @@ fn level_of(r: &[u32; REGION_WORDS]) -> Level
     ensures { result ≡ level_of r.now }
 {
     Level {
-        volume_db: float_at(r, 52),
-        amp_random_db: float_at(r, 53),
-        pan: float_at(r, 54),
-        width: float_at(r, 55),
-        amp_veltrack: float_at(r, 56),
+        volume_db: float_of(r[52]),
+        amp_random_db: float_of(r[53]),
+        pan: float_of(r[54]),
+        width: float_of(r[55]),
+        amp_veltrack: float_of(r[56]),
         velcurve_count: r[29],
         xf_vel: crossfade_of(r),
-        rt_decay_db_per_s: float_at(r, 57),
+        rt_decay_db_per_s: float_of(r[57]),
     }
+}
+
+pub(crate) fn seq_of(r: &[u32; REGION_WORDS]) -> Option<Seq>
+    ensures { result ≡ seq_of (word r.now 15) (word r.now 16) (word r.now 17) }
+{
+    let seq = Seq {
+        length: r[16],
+        position: r[17],
+    };
+    maybe_of(r[15], seq)
+}
+
+pub(crate) fn rand_of(r: &[u32; REGION_WORDS]) -> Option<Rand>
+    ensures { result ≡ rand_of (word r.now 30) (word r.now 31) (word r.now 32) }
+{
+    let rand = Rand {
+        lo: float_of(r[31]),
+        hi: float_of(r[32]),
+    };
+    maybe_of(r[30], rand)
 }
 
 #[tactic(auto, unfolding(crate::specs::Region::choice_of))]
@@ -466,20 +491,8 @@ pub(crate) fn choice_of(r: &[u32; REGION_WORDS]) -> Choice
 {
     Choice {
         trigger: named(&TRIGGERS, r[22], Trigger::Attack),
-        seq: maybe_of(
-            r[15],
-            Seq {
-                length: r[16],
-                position: r[17],
-            },
-        ),
-        rand: maybe_of(
-            r[30],
-            Rand {
-                lo: float_at(r, 31),
-                hi: float_at(r, 32),
-            },
-        ),
+        seq: seq_of(r),
+        rand: rand_of(r),
     }
 }
 
@@ -491,7 +504,7 @@ fn choke_of(r: &[u32; REGION_WORDS]) -> Choke
         group: signed_of(r[18]),
         off_by: maybe_of(r[19], signed_of(r[20])),
         off_mode: named(&OFF_MODES, r[21], OffMode::Fast),
-        off_time: float_at(r, 48),
+        off_time: float_of(r[48]),
         note_polyphony: maybe_of(r[23], r[24]),
         polyphony: maybe_of(r[25], r[26]),
     }

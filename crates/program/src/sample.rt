@@ -2,7 +2,7 @@
 ghost use Rattle.std.specs.Prelude.{◌≡◌, ◌+◌, ◌*◌, ◌≤◌, ◌<◌, length, take, drop};
 ghost use Rattle.std.specs.Float.{float_is_finite};
 ghost use Rattle.program.specs.Valid.{every, all_finite};
-ghost use Rattle.program.specs.Sample.{sample_at, rate_tests, shape_tests, sample_tests};
+ghost use Rattle.program.specs.Sample.{sample_of, sample_at, rate_tests, shape_tests, sample_tests};
 
 use super::region::float_of;
 
@@ -15,7 +15,8 @@ const MAX_FRAMES: u32 = 2_147_483_647;
 // Hz.
 const MAX_RATE: f32 = 768_000.0;
 
-// `rate` in Hz; `frames` per channel; `start`, the first frame's place among those lent. Channel 1 follows channel 0.
+// `rate` in Hz; `frames` per channel; `start`, the first frame's place among those lent. Channel 1 follows channel 0. Places and not slices:
+// the host lends all frames anew at each call, and a player holds its sample from one to the next.
 #[derive(Clone, Copy)]
 pub struct Sample {
     pub rate: f32,
@@ -24,21 +25,25 @@ pub struct Sample {
     pub start: u32,
 }
 
-// Sample `j` of the program's words. Where there is none, every word of it counts as 0.
-pub fn sample_at(samples: &[u32], j: u32) -> Sample
-    ensures { result ≡ sample_at samples.now j }
+// The sample that its words mean.
+pub(crate) fn sample_of(words: &[u32; SAMPLE_WORDS]) -> Sample
+    ensures { result ≡ sample_of words.now 0 }
 {
-    let (samples, _) = samples.as_chunks::<SAMPLE_WORDS>();
-    let [rate, channels, frames, start] = samples
-        .get(j as usize)
-        .copied()
-        .unwrap_or([0; SAMPLE_WORDS]);
+    let [rate, channels, frames, start] = *words;
     Sample {
         rate: float_of(rate),
         channels,
         frames,
         start,
     }
+}
+
+// Sample `j` of the program's words. Where there is none, every word of it counts as 0.
+pub fn sample_at(samples: &[u32], j: u32) -> Sample
+    ensures { result ≡ sample_at samples.now j }
+{
+    let (samples, _) = samples.as_chunks();
+    sample_of(samples.get(j as usize).unwrap_or(&[0; SAMPLE_WORDS]))
 }
 
 // Rust's `is_finite`.

@@ -3,19 +3,17 @@
 #![tactic(auto)]
 
 use program::bind::{BindError, BoundProgram, bind};
-use program::region::REGION_WORDS;
+use program::region::{REGION_WORDS, SILENCE};
 use program::sample::SAMPLE_WORDS;
-
-// Standard output.
-const STDOUT_FILENO: i32 = 1;
+use std::io;
 
 type RegionWords = [u32; REGION_WORDS];
 
 type SampleWords = [u32; SAMPLE_WORDS];
 
-// A region's word under test, the last value that binds and the first that does not, with up to three words set beforehand.
+// A region's word under test, the last value that binds and the first that does not, with the words set beforehand.
 struct Edge {
-    before: [(usize, u32); 3],
+    before: &'static [(usize, u32)],
     word: usize,
     binds: u32,
     refused: u32,
@@ -24,259 +22,259 @@ struct Edge {
 const EDGES: [Edge; 37] = [
     // sample: the last of two, past it
     Edge {
-        before: [(0, 0), (0, 0), (0, 0)],
+        before: &[],
         word: 0,
         binds: 1,
         refused: 2,
     },
     // silence, and the word before it
     Edge {
-        before: [(0, 0), (0, 0), (0, 0)],
+        before: &[],
         word: 0,
-        binds: 0xffff_ffff,
-        refused: 0xffff_fffe,
+        binds: SILENCE,
+        refused: SILENCE - 1,
     },
     // lokey
     Edge {
-        before: [(2, 127), (0, 0), (0, 0)],
+        before: &[(2, 127)],
         word: 1,
         binds: 127,
         refused: 128,
     },
     // hikey
     Edge {
-        before: [(0, 0), (0, 0), (0, 0)],
+        before: &[],
         word: 2,
         binds: 127,
         refused: 128,
     },
     // hikey, a word past 255
     Edge {
-        before: [(0, 0), (0, 0), (0, 0)],
+        before: &[],
         word: 2,
         binds: 0,
         refused: 0xffff_ffff,
     },
     // lovel
     Edge {
-        before: [(4, 127), (0, 0), (0, 0)],
+        before: &[(4, 127)],
         word: 3,
         binds: 127,
         refused: 128,
     },
     // hivel
     Edge {
-        before: [(0, 0), (0, 0), (0, 0)],
+        before: &[],
         word: 4,
         binds: 127,
         refused: 128,
     },
     // pitch_keycenter
     Edge {
-        before: [(0, 0), (0, 0), (0, 0)],
+        before: &[],
         word: 5,
         binds: 127,
         refused: 128,
     },
     // an empty key window
     Edge {
-        before: [(1, 60), (0, 0), (0, 0)],
+        before: &[(1, 60)],
         word: 2,
         binds: 60,
         refused: 59,
     },
     // an empty velocity window
     Edge {
-        before: [(3, 60), (0, 0), (0, 0)],
+        before: &[(3, 60)],
         word: 4,
         binds: 60,
         refused: 59,
     },
     // transpose
     Edge {
-        before: [(0, 0), (0, 0), (0, 0)],
+        before: &[],
         word: 6,
         binds: 127,
         refused: 128,
     },
     // transpose -127, -128
     Edge {
-        before: [(0, 0), (0, 0), (0, 0)],
+        before: &[],
         word: 6,
         binds: 0xffff_ff81,
         refused: 0xffff_ff80,
     },
     // loop start after its end
     Edge {
-        before: [(12, 1), (14, 10), (0, 0)],
+        before: &[(12, 1), (14, 10)],
         word: 13,
         binds: 10,
         refused: 11,
     },
     // seq_position past seq_length
     Edge {
-        before: [(15, 1), (16, 4), (0, 0)],
+        before: &[(15, 1), (16, 4)],
         word: 17,
         binds: 4,
         refused: 5,
     },
     // seq_position 0
     Edge {
-        before: [(15, 1), (16, 4), (0, 0)],
+        before: &[(15, 1), (16, 4)],
         word: 17,
         binds: 1,
         refused: 0,
     },
     // a point's velocity
     Edge {
-        before: [(29, 1), (0, 0), (0, 0)],
+        before: &[(29, 1)],
         word: 136,
         binds: 127,
         refused: 128,
     },
     // a point's gain
     Edge {
-        before: [(29, 1), (0, 0), (0, 0)],
+        before: &[(29, 1)],
         word: 264,
         binds: 0x7f7f_ffff,
         refused: 0x7f80_0000,
     },
     // the last point's gain
     Edge {
-        before: [(29, 128), (0, 0), (0, 0)],
+        before: &[(29, 128)],
         word: 391,
         binds: 0xff7f_ffff,
         refused: 0xff80_0000,
     },
     // rand
     Edge {
-        before: [(30, 1), (0, 0), (0, 0)],
+        before: &[(30, 1)],
         word: 31,
         binds: 0x7f7f_ffff,
         refused: 0x7fc0_0000,
     },
     // xf_vel
     Edge {
-        before: [(33, 1), (0, 0), (0, 0)],
+        before: &[(33, 1)],
         word: 37,
         binds: 0x7f7f_ffff,
         refused: 0x7f80_0000,
     },
     // the sixth filter's gain
     Edge {
-        before: [(27, 6), (0, 0), (0, 0)],
+        before: &[(27, 6)],
         word: 99,
         binds: 0x7f7f_ffff,
         refused: 0x7f80_0000,
     },
     // the sixth band's vel2gain
     Edge {
-        before: [(28, 6), (0, 0), (0, 0)],
+        before: &[(28, 6)],
         word: 135,
         binds: 0x7f7f_ffff,
         refused: 0x7f80_0000,
     },
     // pitch_keytrack 1,200
     Edge {
-        before: [(0, 0), (0, 0), (0, 0)],
+        before: &[],
         word: 39,
         binds: 0x4496_0000,
         refused: 0x4496_0001,
     },
     // pitch_keytrack -1,200
     Edge {
-        before: [(0, 0), (0, 0), (0, 0)],
+        before: &[],
         word: 39,
         binds: 0xc496_0000,
         refused: 0xc496_0001,
     },
     // tune_cents 9,600
     Edge {
-        before: [(0, 0), (0, 0), (0, 0)],
+        before: &[],
         word: 40,
         binds: 0x4616_0000,
         refused: 0x4616_0001,
     },
     // tune_cents -9,600
     Edge {
-        before: [(0, 0), (0, 0), (0, 0)],
+        before: &[],
         word: 40,
         binds: 0xc616_0000,
         refused: 0xc616_0001,
     },
     // bend_up_cents
     Edge {
-        before: [(0, 0), (0, 0), (0, 0)],
+        before: &[],
         word: 41,
         binds: 0x4616_0000,
         refused: 0x4616_0001,
     },
     // bend_down_cents
     Edge {
-        before: [(0, 0), (0, 0), (0, 0)],
+        before: &[],
         word: 42,
         binds: 0xc616_0000,
         refused: 0xc616_0001,
     },
     // delay 3,600 s
     Edge {
-        before: [(0, 0), (0, 0), (0, 0)],
+        before: &[],
         word: 43,
         binds: 0x4561_0000,
         refused: 0x4561_0001,
     },
     // attack
     Edge {
-        before: [(0, 0), (0, 0), (0, 0)],
+        before: &[],
         word: 44,
         binds: 0x4561_0000,
         refused: 0x4561_0001,
     },
     // hold
     Edge {
-        before: [(0, 0), (0, 0), (0, 0)],
+        before: &[],
         word: 45,
         binds: 0x4561_0000,
         refused: 0x4561_0001,
     },
     // decay
     Edge {
-        before: [(0, 0), (0, 0), (0, 0)],
+        before: &[],
         word: 46,
         binds: 0x4561_0000,
         refused: 0x4561_0001,
     },
     // release
     Edge {
-        before: [(0, 0), (0, 0), (0, 0)],
+        before: &[],
         word: 47,
         binds: 0x4561_0000,
         refused: 0x4561_0001,
     },
     // off_time
     Edge {
-        before: [(0, 0), (0, 0), (0, 0)],
+        before: &[],
         word: 48,
         binds: 0x4561_0000,
         refused: 0x4561_0001,
     },
     // delay_s
     Edge {
-        before: [(0, 0), (0, 0), (0, 0)],
+        before: &[],
         word: 49,
         binds: 0x4561_0000,
         refused: 0x4561_0001,
     },
     // a time far below 0, and minus infinity
     Edge {
-        before: [(0, 0), (0, 0), (0, 0)],
+        before: &[],
         word: 44,
         binds: 0xff7f_ffff,
         refused: 0xff80_0000,
     },
     // rt_decay_db_per_s, and a NaN
     Edge {
-        before: [(0, 0), (0, 0), (0, 0)],
+        before: &[],
         word: 57,
         binds: 0x7f7f_ffff,
         refused: 0xffc0_0001,
@@ -341,22 +339,20 @@ const SAMPLE_EDGES: [SampleEdge; 8] = [
     },
 ];
 
-// A region as `Region::default`: its windows, pitch, times and percents; its other words are 0.
-fn default_region() -> RegionWords {
-    let mut r = [0u32; REGION_WORDS];
-    r[2] = 127;
-    r[4] = 127;
-    r[5] = 60;
-    r[39] = 0x42c8_0000;
-    r[41] = 0x4348_0000;
-    r[42] = 0xc348_0000;
-    r[47] = 0x3a83_126f;
-    r[48] = 0x3bc4_9ba6;
-    r[50] = 0x42c8_0000;
-    r[55] = 0x42c8_0000;
-    r[56] = 0x42c8_0000;
-    r
-}
+// The words of `Region::default` that are not 0.
+const DEFAULTS: [(usize, u32); 11] = [
+    (2, 127),
+    (4, 127),
+    (5, 60),
+    (39, 0x42c8_0000),
+    (41, 0x4348_0000),
+    (42, 0xc348_0000),
+    (47, 0x3a83_126f),
+    (48, 0x3bc4_9ba6),
+    (50, 0x42c8_0000),
+    (55, 0x42c8_0000),
+    (56, 0x42c8_0000),
+];
 
 // A sample of 44,100 Hz, one channel of one frame, the first lent.
 const SAMPLE: SampleWords = [0x472c_4400, 1, 1, 0];
@@ -367,146 +363,165 @@ fn put(words: &mut [u32], at: usize, v: u32) {
     }
 }
 
-// Not `println!`, which takes a runtime, a handle: no program here has one.
-fn print_pair(number: u32, index: u32) {
-    io::print_decimal(STDOUT_FILENO, number as u64);
-    io::write_all(STDOUT_FILENO, b" ");
-    io::print_decimal(STDOUT_FILENO, index as u64);
-    io::write_all(STDOUT_FILENO, b"\n");
+fn put_all(words: &mut [u32], values: &[(usize, u32)]) {
+    for (at, v) in values {
+        put(words, *at, *v);
+    }
 }
 
-fn show(b: Result<BoundProgram, BindError>) {
+fn default_region() -> RegionWords {
+    let mut r = [0u32; REGION_WORDS];
+    put_all(&mut r, &DEFAULTS);
+    r
+}
+
+fn show(rt: &impl Print, b: Result<BoundProgram, BindError>) -> io::Result<()> {
     match b {
-        Ok(_) => print_pair(0, 0),
-        Err(BindError::Counts) => print_pair(1, 0),
-        Err(BindError::BadRegion(i)) => print_pair(2, i),
-        Err(BindError::BadSample(j)) => print_pair(3, j),
-        Err(BindError::BadTable) => print_pair(4, 0),
+        Ok(_) => println!(rt; "0 0"),
+        Err(e) => println!(rt; "{} {}", e.number(), e.part().unwrap_or(0)),
     }
 }
 
 // These regions and samples, with four frames and a good table.
-fn show_program(regions: &[RegionWords], samples: &[SampleWords]) {
+fn show_program(
+    rt: &impl Print,
+    regions: &[RegionWords],
+    samples: &[SampleWords],
+) -> io::Result<()> {
     let frames = [0.5f32; 4];
     let table = [0.0f32; 8194];
-    show(bind(
-        regions.as_flattened(),
-        samples.as_flattened(),
-        &frames,
-        &table,
-    ));
+    show(
+        rt,
+        bind(
+            regions.as_flattened(),
+            samples.as_flattened(),
+            &frames,
+            &table,
+        ),
+    )
 }
 
-fn show_regions(regions: &[RegionWords]) {
-    show_program(regions, &[SAMPLE; 2]);
+fn show_regions(rt: &impl Print, regions: &[RegionWords]) -> io::Result<()> {
+    show_program(rt, regions, &[SAMPLE; 2])
 }
 
-fn show_samples_of(samples: &[SampleWords]) {
-    show_program(&[default_region()], samples);
+fn show_samples_of(rt: &impl Print, samples: &[SampleWords]) -> io::Result<()> {
+    show_program(rt, &[default_region()], samples)
 }
 
 // Two regions, the second with the edge's words and this value.
-fn show_edge(edge: &Edge, v: u32) {
+fn show_edge(rt: &impl Print, edge: &Edge, v: u32) -> io::Result<()> {
     let mut second = default_region();
-    for (at, w) in &edge.before {
-        put(&mut second, *at, *w);
-    }
+    put_all(&mut second, edge.before);
     put(&mut second, edge.word, v);
-    show_regions(&[default_region(), second]);
+    show_regions(rt, &[default_region(), second])
 }
 
-fn show_edges() {
+fn show_edges(rt: &impl Print) -> io::Result<()> {
     for edge in &EDGES {
-        show_edge(edge, edge.binds);
-        show_edge(edge, edge.refused);
+        show_edge(rt, edge, edge.binds)?;
+        show_edge(rt, edge, edge.refused)?;
     }
+    Ok(())
 }
 
 // One region with a count of filters, bands or velocity points.
-fn show_count(word: usize, count: u32) {
+fn show_count(rt: &impl Print, word: usize, count: u32) -> io::Result<()> {
     let mut region = default_region();
     put(&mut region, word, count);
-    show_regions(&[region]);
+    show_regions(rt, &[region])
 }
 
-fn show_counts() {
-    show_count(27, 6);
-    show_count(27, 7);
-    show_count(28, 6);
-    show_count(28, 7);
-    show_count(29, 128);
-    show_count(29, 129);
-    show_regions(&[default_region(); 256]);
-    show_regions(&[default_region(); 257]);
-    show_samples_of(&[SAMPLE; 256]);
-    show_samples_of(&[SAMPLE; 257]);
+fn show_counts(rt: &impl Print) -> io::Result<()> {
+    show_count(rt, 27, 6)?;
+    show_count(rt, 27, 7)?;
+    show_count(rt, 28, 6)?;
+    show_count(rt, 28, 7)?;
+    show_count(rt, 29, 128)?;
+    show_count(rt, 29, 129)?;
+    show_regions(rt, &[default_region(); 256])?;
+    show_regions(rt, &[default_region(); 257])?;
+    show_samples_of(rt, &[SAMPLE; 256])?;
+    show_samples_of(rt, &[SAMPLE; 257])
 }
 
 // Two samples, the second with this word.
-fn show_sample(word: usize, v: u32) {
+fn show_sample(rt: &impl Print, word: usize, v: u32) -> io::Result<()> {
     let mut second = SAMPLE;
     put(&mut second, word, v);
-    show_samples_of(&[SAMPLE, second]);
+    show_samples_of(rt, &[SAMPLE, second])
 }
 
-fn show_sample_edges() {
+fn show_sample_edges(rt: &impl Print) -> io::Result<()> {
     for edge in &SAMPLE_EDGES {
-        show_sample(edge.word, edge.binds);
-        show_sample(edge.word, edge.refused);
+        show_sample(rt, edge.word, edge.binds)?;
+        show_sample(rt, edge.word, edge.refused)?;
     }
+    Ok(())
 }
 
 // The second sample has `channels` of `frames` frames, and the last frame lent is infinite.
-fn show_frames(channels: u32, frames: u32) {
+fn show_frames(rt: &impl Print, channels: u32, frames: u32) -> io::Result<()> {
     let second = [SAMPLE[0], channels, frames, 0];
     let lent = [0.5f32, 0.5f32, 0.5f32, f32::INFINITY];
     let table = [0.0f32; 8194];
-    show(bind(
-        &default_region(),
-        [SAMPLE, second].as_flattened(),
-        &lent,
-        &table,
-    ));
+    show(
+        rt,
+        bind(
+            &default_region(),
+            [SAMPLE, second].as_flattened(),
+            &lent,
+            &table,
+        ),
+    )
 }
 
-fn show_samples() {
-    show_sample_edges();
-    show_frames(1, 3);
-    show_frames(1, 4);
-    show_frames(2, 1);
-    show_frames(2, 2);
-    show_frames(2, 3);
+fn show_samples(rt: &impl Print) -> io::Result<()> {
+    show_sample_edges(rt)?;
+    show_frames(rt, 1, 3)?;
+    show_frames(rt, 1, 4)?;
+    show_frames(rt, 2, 1)?;
+    show_frames(rt, 2, 2)?;
+    show_frames(rt, 2, 3)
 }
 
 // One region, one sample and this table.
-fn show_table(table: &[f32]) {
-    show(bind(&default_region(), &SAMPLE, &[0.5f32; 4], table));
+fn show_table(
+    rt: &impl Print,
+    words: &RegionWords,
+    sample: &SampleWords,
+    table: &[f32],
+) -> io::Result<()> {
+    show(rt, bind(words, sample, &[0.5f32; 4], table))
+}
+
+fn show_tables(rt: &impl Print) -> io::Result<()> {
+    let words = default_region();
+    show_table(rt, &words, &SAMPLE, &[0.0f32; 8193])?;
+    show_table(rt, &words, &SAMPLE, &[0.0f32; 8194])?;
+    show_table(rt, &words, &SAMPLE, &[0.0f32; 8195])
 }
 
 // What is wrong is mended one by one: the count, the region, the sample; the table stays wrong.
-fn show_order(mended: u32) {
+fn show_order(rt: &impl Print) -> io::Result<()> {
+    let table = [0.0f32; 8193];
     let mut words = default_region();
     let mut sample = SAMPLE;
-    if mended < 1 {
-        words[27] = 7;
-    }
-    if mended < 2 {
-        words[0] = 9;
-    }
-    if mended < 3 {
-        sample[1] = 3;
-    }
-    show(bind(&words, &sample, &[0.5f32; 4], &[0.0f32; 8193]));
+    put_all(&mut words, &[(0, 9), (27, 7)]);
+    put(&mut sample, 1, 3);
+    show_table(rt, &words, &sample, &table)?;
+    put(&mut words, 27, 0);
+    show_table(rt, &words, &sample, &table)?;
+    put(&mut words, 0, 0);
+    show_table(rt, &words, &sample, &table)?;
+    put(&mut sample, 1, 1);
+    show_table(rt, &words, &sample, &table)
 }
 
-fn main() {
-    show_edges();
-    show_counts();
-    show_samples();
-    show_table(&[0.0f32; 8193]);
-    show_table(&[0.0f32; 8194]);
-    show_table(&[0.0f32; 8195]);
-    for mended in 0..4 {
-        show_order(mended);
-    }
+fn main(rt: HostRuntime) -> io::Result<()> {
+    show_edges(&rt)?;
+    show_counts(&rt)?;
+    show_samples(&rt)?;
+    show_tables(&rt)?;
+    show_order(&rt)
 }

@@ -85,7 +85,7 @@ module _ (id : ℕ) (c : Cues) where
   frame-chain sc i =
       either scene_both (event_on c sc i)
       (then (rendered-chain id (sounds_of c) i sc)
-      (events-chain id (kit_of c) c.time i (strike_at c i) (gate_at c.connected.gate c.gate i) (rendered_to (sounds_of c) i sc).playing)) stay
+      (events-chain id (kit_of c) c.time i (strike_at c i) (gate_at c.inputs.gate i) (rendered_to (sounds_of c) i sc).playing)) stay
 
   pub frames-chain : (is : List ℕ) (sc : Scene) → Turns id (scene_both sc) (starts_of_frames c is sc) (scene_both (foldl (frame_turn c) sc is))
   unfolding starts_of_frames
@@ -93,13 +93,13 @@ module _ (id : ℕ) (c : Cues) where
   frames-chain (i ∷ is) sc = then (frame-chain sc i) (frames-chain is (frame_turn c sc i))
 
 module _ (id : ℕ) (l : Lent) where
-  retuned-chain : (b : Both) → Turns id b [] (record { session = b.session; voice = retuned_voice l.connected l.freq l.bend b.voice })
+  retuned-chain : (b : Both) → Turns id b [] (record { session = b.session; voice = retuned_voice l.inputs b.voice })
   unfolding retuned_voice
   retuned-chain b = by-case b.voice.note where
-    by-case : (n : Option NoteState) → Turns id b [] (record { session = b.session; voice = retuned_for l.connected l.freq l.bend n b.voice })
+    by-case : (n : Option NoteState) → Turns id b [] (record { session = b.session; voice = retuned_for l.inputs n b.voice })
     by-case None = stay
     by-case (Some n) =
-        kept (λ h. keeps-retuned id b h (note_of (input_at l.connected.freq l.freq 0 f0) n.note_f) (bend_of (input_at l.connected.bend l.bend 0 f0)))
+        kept (λ h. keeps-retuned id b h (note_of (input_at l.inputs.freq 0 f0) n.note_f) (bend_of (input_at l.inputs.bend 0 f0)))
 
   pub start-chain : (s : Session) (v : SampleVoice) → Turns id (record { session = s; voice = v }) [] (scene_both (block_start l s v))
   unfolding block_start started_block

@@ -1,4 +1,5 @@
 -- A block leaves the book steady. Assumes nothing.
+use Rattle.std.specs.Prelude.{Ok, Err}
 use Prim.Native.Nat.{ℕ, ◌+◌}
 use mathlib.Core.Path.{◌≡◌, refl, sym, ◌∙◌, subst}
 use mathlib.Core.Bool.{true}
@@ -11,9 +12,7 @@ use Rattle.events.specs.declared.Both.{Both}
 use Rattle.events.specs.declared.SampleVoice.{SampleVoice}
 use Rattle.block.specs.Block.{played_block}
 use Rattle.block.specs.Inputs.{Lent}
-use Rattle.voice.specs.Calls.{BlockLeft, if_done, block_answer, block_done, blocked}
-use Rattle.voice.specs.declared.Answer.{Answer}
-use Rattle.voice.specs.declared.Answer.TheVariants.{Done, BadRate, TooManyVoices, BadBlock, BadState, TooLate}
+use Rattle.voice.specs.Calls.{BlockLeft, Answer, done, if_done, block_answer, block_done, blocked}
 use Rattle.run.specs.Run.{block, Book, put, note, starts_of, players_in, drops_in, last_gate, ids_in, is_live, one, records_of}
 use Rattle.run.specs.Starts.{Started, starts_of_block}
 use Rattle.run.proofs.Moves.{Moves, Kept}
@@ -51,7 +50,7 @@ module _ (b : Book) (h : Steady b) where
         → Steady (record { world = record { session = s; voices = put id v b.world.voices }; starts = put id p b.starts; drops = put id d b.drops; gate = b.gate })
     back s v p d e f m n = rw (book-same b id s v p d b.gate e f m n refl) h
 
-    module _ (e : block_answer l b.world.session (b.world.voices id) ≡ Done) where
+    module _ (e : block_answer l b.world.session (b.world.voices id) ≡ done) where
       live : is_live b id ≡ true
       live = block-live b h id l e
 
@@ -90,12 +89,8 @@ module _ (b : Book) (h : Steady b) where
 
     block_noted : (a : Answer) → block_answer l b.world.session (b.world.voices id) ≡ a → Steady (noted_block b id l a)
     unfolding block_done
-    block_noted Done e = steady-changed b h id (live e) _ _ _ _ _ (block-left e)
-    block_noted BadRate e = back _ _ _ _ refl refl (omega arith) (omega arith)
-    block_noted TooManyVoices e = back _ _ _ _ refl refl (omega arith) (omega arith)
-    block_noted BadBlock e = back _ _ _ _ refl refl (omega arith) (omega arith)
-    block_noted BadState e = back _ _ _ _ refl refl (omega arith) (omega arith)
-    block_noted TooLate e = back _ _ _ _ refl refl (omega arith) (omega arith)
+    block_noted (Ok x) e = steady-changed b h id (live e) _ _ _ _ _ (block-left e)
+    block_noted (Err r) e = back _ _ _ _ refl refl (omega arith) (omega arith)
 
     pub block-steady : Steady (note b (block id l))
     unfolding blocked starts_of

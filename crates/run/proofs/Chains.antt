@@ -12,7 +12,7 @@ use Rattle.note.specs.Choice.{choosing_on, chosen_off}
 use Rattle.note.specs.Note.{note_state}
 use Rattle.note.specs.declared.NoteState.{NoteState}
 use Rattle.note.specs.declared.Strike.{Strike}
-use Rattle.players.specs.Gate.{released_all, offed_slot}
+use Rattle.players.specs.Gate.{released_all, offed_slot, ignored, fires}
 use Rattle.gates.specs.Gate.{risen, hit_at, attack_cause, note_started, noted_on, let_go_both, let_go_note, noted_off}
 use Rattle.gates.specs.Off.{reaped_both, fired_note, may_fire, choke_fires, applied_off, acts_on, is_taken, took_own, own_offs}
 use Rattle.events.specs.Start.{start_in, started_region, started_all, release_cause, releases_fired, fired_for, dispatched_release}
@@ -95,7 +95,7 @@ module _ (id : ℕ) (k : Kit) where
   off-chain m slot at b =
       let o = offed_slot slot b.voice.players in
       let c : Both = record { session = b.session; voice = with_players o.players b.voice } in
-      either itself o.ignored stay (then (kept (λ h. keeps-offed id b h slot)) (then (reap c) (choke-chain m at o.fires (reaped_both c))))
+      either itself (ignored o.mark) stay (then (kept (λ h. keeps-offed id b h slot)) (then (reap c) (choke-chain m at (fires o.mark) (reaped_both c))))
 
   pub took-chain : (m : ℕ) (b : Both)
       → Turns id b (starts_of_first k m (took_first b.voice.voice b.session).first (record { session = (took_first b.voice.voice b.session).session; voice = b.voice })) (took_own k m b)

@@ -1,5 +1,5 @@
 -- Reset and close leave the book steady. Assumes nothing.
-use Rattle.std.specs.Prelude.{filter}
+use Rattle.std.specs.Prelude.{Ok, Err, filter}
 use Prim.Native.Nat.{ℕ, ◌+◌, ◌≤◌}
 use mathlib.Core.Path.{◌≡◌, refl, sym, ap, ◌∙◌, subst}
 use mathlib.Core.Bool.{true, false}
@@ -13,9 +13,7 @@ use Rattle.session.specs.declared.PlayerRecord.{PlayerRecord}
 use Rattle.session.specs.declared.Session.{Session}
 use Rattle.session.proofs.Laws.{voice-others, voice-gone}
 use Rattle.session.proofs.Voices.{others, live-freed, next-freed, ended-voices}
-use Rattle.voice.specs.Calls.{if_done, end_answer, silenced, was_reset, was_closed}
-use Rattle.voice.specs.declared.Answer.{Answer}
-use Rattle.voice.specs.declared.Answer.TheVariants.{Done, BadRate, TooManyVoices, BadBlock, BadState, TooLate}
+use Rattle.voice.specs.Calls.{Answer, done, if_done, end_answer, silenced, was_reset, was_closed}
 use Rattle.run.specs.Run.{reset, close, Book, put, note, ids_in, is_live, gates_held, one, sum_over, records_of}
 use Rattle.run.proofs.Moves.{end}
 use Rattle.run.proofs.Steady.{Steady, Voiced, held-some}
@@ -87,7 +85,7 @@ module _ (b : Book) (h : Steady b) (id : ℕ) where
           (ended_held b.world.session h.places (b.world.voices id).voice (b.world.voices id).gate_held (held-some b h id live));
     }
 
-    pub reset-done : Steady (reset_noted b id Done)
+    pub reset-done : Steady (reset_noted b id done)
     reset-done =
         let e = put_same id (b.starts id) b.starts refl in
         let f = put_same id (b.drops id) b.drops refl in
@@ -102,7 +100,7 @@ module _ (b : Book) (h : Steady b) (id : ℕ) where
     same-voices : (ended_on b id).voices ≡ b.world.session.voices
     same-voices = ended-voices (b.world.voices id).voice (b.world.voices id).gate_held b.world.session
 
-    closed-ids : ids_in (close_noted b id Done).world ≡ filter (others id) (ids_in b.world)
+    closed-ids : ids_in (close_noted b id done).world ≡ filter (others id) (ids_in b.world)
     unfolding closed_voice
     closed-ids = live-freed (b.world.voices id).voice b.world.session.voices ∙ ap (λ k. filter (others k) (ids_in b.world)) (h.named id)
 
@@ -112,7 +110,7 @@ module _ (b : Book) (h : Steady b) (id : ℕ) where
         (λ n. rw (put-away id false b.gate i n) (subst (λ ks. Voiced (b.starts i) (b.drops i) (b.gate i) ks (b.world.voices i))
         (sym (ap (map (λ (r : PlayerRecord). r.slot)) (others-ended i n))) (h.each i (sym (elem-keep-away id i (ids_in b.world) n) ∙ l)))) (same? i id)
 
-    pub close-done : Steady (close_noted b id Done)
+    pub close-done : Steady (close_noted b id done)
     unfolding closed_voice gates_held
     close-done =
         let r = reset-done in
@@ -135,20 +133,12 @@ module _ (b : Book) (h : Steady b) (id : ℕ) where
       subst (λ (x : Book). Steady x) (λ i. record { world = record { session = b.world.session; voices = sym e i }; starts = b.starts; drops = b.drops; gate = b.gate }) h
 
   reset-noted : (a : Answer) → end_answer b.world.session (b.world.voices id) ≡ a → Steady (reset_noted b id a)
-  reset-noted Done e = reset-done (ended-live b h id e)
-  reset-noted BadRate e = reset-back
-  reset-noted TooManyVoices e = reset-back
-  reset-noted BadBlock e = reset-back
-  reset-noted BadState e = reset-back
-  reset-noted TooLate e = reset-back
+  reset-noted (Ok x) e = reset-done (ended-live b h id e)
+  reset-noted (Err r) e = reset-back
 
   close-noted : (a : Answer) → end_answer b.world.session (b.world.voices id) ≡ a → Steady (close_noted b id a)
-  close-noted Done e = close-done (ended-live b h id e)
-  close-noted BadRate e = h
-  close-noted TooManyVoices e = h
-  close-noted BadBlock e = h
-  close-noted BadState e = h
-  close-noted TooLate e = h
+  close-noted (Ok x) e = close-done (ended-live b h id e)
+  close-noted (Err r) e = h
 
   pub reset-steady : Steady (note b (reset id))
   unfolding was_reset

@@ -17,7 +17,7 @@ use Rattle.note.specs.Choice.{choosing_on}
 use Rattle.note.specs.Note.{note_state}
 use Rattle.note.specs.declared.NoteState.{NoteState}
 use Rattle.note.specs.declared.Strike.{Strike}
-use Rattle.players.specs.Gate.{released_all, offed_slot}
+use Rattle.players.specs.Gate.{released_all, offed_slot, ignored, fires}
 use Rattle.players.specs.Mix.{Sounds}
 use Rattle.players.specs.Seats.{sounding, is_over}
 use Rattle.gates.specs.Gate.{risen, hit_at, note_started, noted_on, let_go_both, let_go_note, noted_off}
@@ -92,8 +92,8 @@ module _ (k : Kit) where
   off-rests m slot at b =
       let o = offed_slot slot b.voice.players in
       let c : Both = record { session = b.session; voice = with_players o.players b.voice } in
-      one_of itself o.ignored still
-      (also {c = c} (record { held = refl; gate = refl; prev = refl }) (also (reaped-rests c) (choke-rests m at o.fires (reaped_both c))))
+      one_of itself (ignored o.mark) still
+      (also {c = c} (record { held = refl; gate = refl; prev = refl }) (also (reaped-rests c) (choke-rests m at (fires o.mark) (reaped_both c))))
 
   took-rests : (m : ℕ) (b : Both) → Rests b (took_own k m b)
   unfolding took_own took_first
@@ -175,7 +175,7 @@ counted true h₀ n some e = let p = some refl in omega arith
 counted false h₀ n some e = omega arith
 
 abbrev gate_on : Cues → ℕ → Bool
-gate_on c i = gate_at c.connected.gate c.gate i
+gate_on c i = gate_at c.inputs.gate i
 
 -- the gate after n frames from i on
 last_of : Cues → Bool → ℕ → ℕ → Bool
@@ -269,10 +269,10 @@ module _ (g₀ : Bool) (h₀ : ℕ) (room : h₀ + 1 < 2 ^ 32) (some : g₀ ≡ 
 
 -- ---- a block
 
-retuned-rests : (l : Lent) (b : Both) → Rests b (record { session = b.session; voice = retuned_voice l.connected l.freq l.bend b.voice })
+retuned-rests : (l : Lent) (b : Both) → Rests b (record { session = b.session; voice = retuned_voice l.inputs b.voice })
 unfolding retuned_voice
 retuned-rests l b = by-case b.voice.note where
-  by-case : (n : Option NoteState) → Rests b (record { session = b.session; voice = retuned_for l.connected l.freq l.bend n b.voice })
+  by-case : (n : Option NoteState) → Rests b (record { session = b.session; voice = retuned_for l.inputs n b.voice })
   by-case None = still
   by-case (Some n) = record { held = refl; gate = refl; prev = refl }
 

@@ -1,5 +1,5 @@
 -- Making a voice leaves the book steady, and so does the start of a run. Assumes nothing.
-use Rattle.std.specs.Prelude.{cond, Some, None}
+use Rattle.std.specs.Prelude.{Ok, Err, cond, Some, None}
 use Prim.Native.Nat.{ℕ, ◌+◌, ◌≤◌, ◌^◌}
 use mathlib.Core.Path.{◌≡◌, refl, sym, ap, ◌∙◌, subst}
 use mathlib.Core.Bool.{true, false, ◌&&◌}
@@ -19,10 +19,8 @@ use Rattle.session.specs.declared.Session.{Session}
 use Rattle.session.proofs.Voices.{live-placed, next-placed}
 use Rattle.players.specs.Seats.{no_players}
 use Rattle.events.specs.declared.SampleVoice.{SampleVoice}
-use Rattle.voice.specs.Calls.{if_done, make_answer, made, fresh_voice}
+use Rattle.voice.specs.Calls.{Answer, done, if_done, make_answer, made, fresh_voice}
 use Rattle.causes.specs.Tests.{rate_fits, no_place, id_left}
-use Rattle.voice.specs.declared.Answer.{Answer}
-use Rattle.voice.specs.declared.Answer.TheVariants.{Done, BadRate, TooManyVoices, BadBlock, BadState, TooLate}
 use Rattle.run.specs.Run.{make, Book, opening, put, note, ids_in, is_live, gates_held, one, sum_over}
 use Rattle.run.proofs.Moves.{end}
 use Rattle.run.proofs.Steady.{Steady, Voiced, none_of}
@@ -47,7 +45,7 @@ make_noted b rate p a =
     }
 
 -- a voice that is made finds a place
-has-place : (rate : Float) (s : Session) → make_answer rate s ≡ Done → has_place s.voices ≡ true
+has-place : (rate : Float) (s : Session) → make_answer rate s ≡ done → has_place s.voices ≡ true
 unfolding make_answer
 has-place rate s e =
     let t = make-tests (rate_fits rate) (no_place s) (id_left s) e in
@@ -126,14 +124,10 @@ module _ (b : Book) (h : Steady b) (rate : Float) (p : BoundProgram) (e : has_pl
 
 module _ (b : Book) (h : Steady b) (rate : Float) (p : BoundProgram) where
   make-noted : (a : Answer) → make_answer rate b.world.session ≡ a → Steady (make_noted b rate p a)
-  make-noted Done e =
+  make-noted (Ok x) e =
       let k = has-place rate b.world.session e in
       rw (opened-place b.world.session k) (taken-steady b h rate p k)
-  make-noted BadRate e = h
-  make-noted TooManyVoices e = h
-  make-noted BadBlock e = h
-  make-noted BadState e = h
-  make-noted TooLate e = h
+  make-noted (Err r) e = h
 
   pub make-steady : Steady (note b (make rate p))
   unfolding made

@@ -1,5 +1,5 @@
 -- The claim over a whole run: of every run of the port from a fresh session, at its end and at each call on the way. Assumes nothing.
-use Rattle.std.specs.Prelude.{cond, Some, None}
+use Rattle.std.specs.Prelude.{Ok, Err, cond, Some, None}
 use Prim.Native.Nat.{ℕ, ◌+◌, ◌≤◌, ◌<◌, ◌^◌}
 use mathlib.Core.Path.{◌≡◌, refl, sym, ap, ◌∙◌, subst}
 use mathlib.Core.Bool.{Bool, true, false, not}
@@ -17,9 +17,7 @@ use Rattle.session.specs.declared.Session.{Session}
 use Rattle.players.specs.Seats.{sounding, slot_numbers}
 use Rattle.player.specs.declared.Player.{Player}
 use Rattle.block.specs.Inputs.{Lent}
-use Rattle.voice.specs.Calls.{BlockLeft, if_done, make_answer, made, block_answer, block_done, blocked, end_answer, was_reset, was_closed}
-use Rattle.voice.specs.declared.Answer.{Answer}
-use Rattle.voice.specs.declared.Answer.TheVariants.{Done, BadRate, TooManyVoices, BadBlock, BadState, TooLate}
+use Rattle.voice.specs.Calls.{BlockLeft, Answer, if_done, make_answer, made, block_answer, block_done, blocked, end_answer, was_reset, was_closed}
 use Rattle.voice.specs.declared.Called.{Called}
 use Rattle.voice.specs.declared.Closed.{Closed}
 use Rattle.run.specs.Run.{Call, opening, make, block, ask, reset, close, World, Book, fresh, put, step, note, account, starts_of, after_make, after_call, after_close, Ran, over, made_by, blocked_by, asked_by, reset_by, closed_by, Holds, Mirrors, is_live, live_players, Rising, records_of, Follows, In, Since, old, voice_of, Between, AllAlong, Claimed, players_in}
@@ -150,20 +148,12 @@ module _ (b : Book) (h : Steady b) (id : ℕ) where
       in-fewer (λ r. not (of_voice id r)) j (view b.world.session) q (subst (λ rs. In q (records_of j rs)) (view-ended b h id) i)
 
   others-after : (a : Answer) (j : ℕ) → (j ≡ id → ⊥) → records j (if_done a (ended_on b id) b.world.session) ≡ records j b.world.session
-  others-after Done j n = others-ended b h id j n
-  others-after BadRate j n = refl
-  others-after TooManyVoices j n = refl
-  others-after BadBlock j n = refl
-  others-after BadState j n = refl
-  others-after TooLate j n = refl
+  others-after (Ok x) j n = others-ended b h id j n
+  others-after (Err r) j n = refl
 
   fewer-after : (a : Answer) (j : ℕ) (q : PlayerRecord) → In q (records j (if_done a (ended_on b id) b.world.session)) → In q (records j b.world.session)
-  fewer-after Done j q i = fewer-ended j q i
-  fewer-after BadRate j q i = i
-  fewer-after TooManyVoices j q i = i
-  fewer-after BadBlock j q i = i
-  fewer-after BadState j q i = i
-  fewer-after TooLate j q i = i
+  fewer-after (Ok x) j q i = fewer-ended j q i
+  fewer-after (Err r) j q i = i
 
   between-reset : Between b b.world (reset id) (step b.world (reset id))
   unfolding was_reset starts_of
@@ -176,12 +166,8 @@ module _ (b : Book) (h : Steady b) (id : ℕ) where
       → view (if_done a (closed_voice (b.world.voices id).voice (b.world.voices id).gate_held b.world.session) b.world.session)
       ≡ view (if_done a (ended_on b id) b.world.session)
   unfolding closed_voice
-  view-closed Done = refl
-  view-closed BadRate = refl
-  view-closed TooManyVoices = refl
-  view-closed BadBlock = refl
-  view-closed BadState = refl
-  view-closed TooLate = refl
+  view-closed (Ok x) = refl
+  view-closed (Err r) = refl
 
   between-close : Between b b.world (close id) (step b.world (close id))
   unfolding was_closed starts_of
@@ -199,12 +185,8 @@ view-opened s = by-case (has_place s.voices) where
   by-case false = refl
 
 view_made : (s : Session) (a : Answer) → view (if_done a (opened s).session s) ≡ view s
-view_made s Done = view-opened s
-view_made s BadRate = refl
-view_made s TooManyVoices = refl
-view_made s BadBlock = refl
-view_made s BadState = refl
-view_made s TooLate = refl
+view_made s (Ok x) = view-opened s
+view_made s (Err r) = refl
 
 between-make : (b : Book) (rate : Float) (p : BoundProgram) → Between b b.world (make rate p) (step b.world (make rate p))
 unfolding made starts_of
@@ -226,25 +208,17 @@ module _ (b : Book) (h : Steady b) where
     block-others : (a : Answer) → block_answer l b.world.session (b.world.voices id) ≡ a → (j : ℕ) → (j ≡ id → ⊥)
         → Follows j (if_done a played []) (records j b.world.session) (records j (block_session a))
     unfolding block_done
-    block-others Done e j n = preserved.others (block-moves b h id l e) (kept-now b h id (block-live b h id l e)) j n
-    block-others BadRate e j n = refl
-    block-others TooManyVoices e j n = refl
-    block-others BadBlock e j n = refl
-    block-others BadState e j n = refl
-    block-others TooLate e j n = refl
+    block-others (Ok x) e j n = preserved.others (block-moves b h id l e) (kept-now b h id (block-live b h id l e)) j n
+    block-others (Err r) e j n = refl
 
     block-stays : (a : Answer) → block_answer l b.world.session (b.world.voices id) ≡ a → (j : ℕ)
         → put id (b.starts id + players_in (if_done a played [])) b.starts j < 2 ^ 32
         → (q : PlayerRecord) → In q (records j (block_session a)) → Since (b.starts j) (records j b.world.session) q
     unfolding block_done
-    block-stays Done e j n q i =
+    block-stays (Ok x) e j n q i =
         since-moves (block-moves b h id l e) (kept-now b h id (block-live b h id l e)) j (b.starts j) (ap b.starts)
         (λ (p : j ≡ id). subst (λ k. k < 2 ^ 32) (put-here id (b.starts id + players_in played) b.starts j p) n) q i
-    block-stays BadRate e j n q i = unchanged i
-    block-stays TooManyVoices e j n q i = unchanged i
-    block-stays BadBlock e j n q i = unchanged i
-    block-stays BadState e j n q i = unchanged i
-    block-stays TooLate e j n q i = unchanged i
+    block-stays (Err r) e j n q i = unchanged i
 
     between-block : Between b b.world (block id l) (step b.world (block id l))
     unfolding blocked starts_of

@@ -1,5 +1,5 @@
 -- One claim over a whole run: the calls, the run of the port, the run of the definitions with its own bookkeeping, and the claim.
-use Rattle.std.specs.Prelude.{ℕ, ◌+◌, ◌-◌, ◌≤◌, ◌<◌, ◌^◌, min, ◌≡◌, Bool, true, false, not, length, leb, eqb, Float, cond, filter}
+use Rattle.std.specs.Prelude.{ℕ, ◌+◌, ◌-◌, ◌≤◌, ◌<◌, ◌^◌, min, ◌≡◌, Bool, true, false, not, length, leb, eqb, Float, Result, cond, filter}
 use mathlib.Core.List.{List, [], ◌∷◌, foldl}
 use Rattle.exact.specs.Single.{f0}
 use Rattle.program.specs.declared.bind.BoundProgram.{BoundProgram}
@@ -17,7 +17,7 @@ use Rattle.block.specs.Inputs.{Lent, gate_at}
 use Rattle.voice.specs.Numbers.{make_number, block_number, ask_number, end_number}
 use Rattle.voice.specs.Calls.{number_of, Program, BlockLeft, made, fresh_voice, blocked, asked, was_reset, was_closed, block_answer, make_answer, end_answer, if_done}
 use Rattle.voice.specs.declared.Called.{Called}
-use Rattle.voice.specs.declared.Asked.{Asked}
+use Rattle.voice.specs.declared.Refusal.{Refusal}
 use Rattle.voice.specs.declared.Closed.{Closed}
 use Rattle.run.specs.Starts.{Started, starts_of_block}
 
@@ -67,8 +67,8 @@ pub data Ran : World → List Call → World → Type 0 where
       → (◌≡◌ {A = BlockLeft} (record { called = r; left = left; right = right }) (blocked l w.session (w.voices id)))
       × (number_of r.answer ≡ block_number l w.session (w.voices id))
       → Ran (after_call w id r) cs end → Ran w (block id l ∷ cs) end
-  asked_by : {w end : World} {cs : List Call} (id : ℕ) (k : Program) (r : Asked)
-      → (r ≡ asked k w.session (w.voices id)) × (number_of r.answer ≡ ask_number k w.session (w.voices id))
+  asked_by : {w end : World} {cs : List Call} (id : ℕ) (k : Program) (r : Result Bool Refusal)
+      → (r ≡ asked k w.session (w.voices id)) × (number_of r ≡ ask_number k w.session (w.voices id))
       → Ran w cs end → Ran w (ask id k ∷ cs) end
   reset_by : {w end : World} {cs : List Call} (id : ℕ) (r : Called)
       → (r ≡ was_reset w.session (w.voices id)) × (number_of r.answer ≡ end_number w.session (w.voices id))
@@ -114,7 +114,7 @@ pub record Book : Type 0 where
 
 -- a gate is held from a rising edge to the falling one: at a block's end it stands as its last frame has it
 abbrev pub last_gate : Lent → Bool
-last_gate l = gate_at l.connected.gate l.gate (l.time.frames - 1)
+last_gate l = gate_at l.inputs.gate (l.time.frames - 1)
 
 abbrev pub note : Book → Call → Book
 note b (make rate p) =

@@ -13,7 +13,7 @@ use Rattle.note.specs.Choice.{choosing_on, chosen_off}
 use Rattle.note.specs.Note.{note_state}
 use Rattle.note.specs.declared.NoteState.{NoteState}
 use Rattle.note.specs.declared.Strike.{Strike}
-use Rattle.players.specs.Gate.{offed_slot}
+use Rattle.players.specs.Gate.{offed_slot, ignored, fires}
 use Rattle.gates.specs.Gate.{risen, hit_at, attack_cause, note_started, let_go_both}
 use Rattle.gates.specs.Off.{reaped_both, unfired, fired_note, took_own, is_taken}
 use Rattle.events.specs.Start.{start_in, started_region, release_cause}
@@ -65,7 +65,7 @@ starts_of_choke k m at fires b =
 unfoldable pub starts_of_off : Kit → ℕ → ℕ → ℕ → Both → List Started
 starts_of_off k m slot at b =
     let o = offed_slot slot b.voice.players in
-    cond o.ignored [] (starts_of_choke k m at o.fires (reaped_both (record { session = b.session; voice = with_players o.players b.voice })))
+    cond (ignored o.mark) [] (starts_of_choke k m at (fires o.mark) (reaped_both (record { session = b.session; voice = with_players o.players b.voice })))
 
 abbrev pub starts_of_first : Kit → ℕ → Option Off → Both → List Started
 starts_of_first k m None b = []
@@ -116,7 +116,7 @@ starts_of_events k t i x g p = starts_of_turns k t i p.offs.count p ++ starts_of
 unfoldable pub starts_of_frame : Cues → Scene → ℕ → List Started
 starts_of_frame c sc i =
     cond (event_on c sc i)
-    (starts_of_events (kit_of c) c.time i (strike_at c i) (gate_at c.connected.gate c.gate i) (rendered_to (sounds_of c) i sc).playing)
+    (starts_of_events (kit_of c) c.time i (strike_at c i) (gate_at c.inputs.gate i) (rendered_to (sounds_of c) i sc).playing)
     []
 
 unfoldable pub starts_of_frames : Cues → List ℕ → Scene → List Started

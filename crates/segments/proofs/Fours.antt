@@ -1,11 +1,11 @@
 -- Four frames read at a time are the kernel's, each at its own position. Assumes nothing.
 use mathlib.Core.Path.{◌≡◌, refl, ap}
-use mathlib.Core.Bool.{Bool, true, false}
+use Rattle.std.proofs.Common.{None, Some}
 use mathlib.Core.List.{List}
 use Prim.Native.Nat.{ℕ, ◌+◌, ◌*◌, ◌≤◌, ◌<◌}
 use native.Mathlib.Omega.{arith}
 use lib.Dec.{T}
-use lib.ListN.{length, set}
+use lib.ListN.{length}
 use lib.Ieee.{Float, binary64, to_unsigned, fits}
 use Rattle.exact.specs.Single.{f0}
 use Rattle.interp.specs.Position.{Position, fraction}
@@ -16,9 +16,11 @@ use Rattle.interp.specs.declared.Interp.TheVariants.{Sinc}
 use Rattle.interp.specs.declared.sinc.SincSpan.{SincSpan}
 use Rattle.lanes.specs.declared.four.Four.{Four}
 use Rattle.lanes.specs.declared.four.Starts.{Starts}
-use Rattle.segments.specs.Source.{Lent}
+use Rattle.player.specs.declared.Cold.{Cold}
+use Rattle.segments.specs.Source.{Sound}
+use Rattle.segments.specs.declared.ahead.Kept.{Kept}
 use Rattle.segments.specs.declared.ahead.Next.{Next}
-use Rattle.segments.specs.Ahead.{Inner, Positions, AllInner, Kept}
+use Rattle.segments.specs.Ahead.{Inner, Positions, AllInner, AllRead, kept_from}
 use Rattle.segments.proofs.Behind.{fraction-part}
 use Rattle.segments.proofs.Kept.{Read, keeps}
 
@@ -63,24 +65,24 @@ lane : (table frames : List Float) (span : SincSpan) (n : ℕ) (f p : Float) →
 unfolding read_at kernel_at
 lane table frames span n f p h e = let z : n + 41 + span.half ≡ to_unsigned 64 p + 42 = omega arith in rw (z, e)
 
-module _ (span : SincSpan) (stereo : Bool) (s : Lent) (len n : ℕ) (f p l : Float) (h : 2 ≤ span.half) (d : T (fits binary64 p)) (k : Position p) (begin : n + span.half ≡ to_unsigned 64 p + 1) (behind : f ≡ fraction p)
-    (i : Inner p span.half len) (left : l ≡ sinc_at s.table s.a span (place_from span n) f) where
-  both_lane : (r : Float) → stereo ≡ true → r ≡ sinc_at s.table s.b span (place_from span n) f → Read span stereo s p l r
+module _ (c : Cold) (s : Sound) (kind : c.interp ≡ Sinc) (len n : ℕ) (f p l : Float) (h : 2 ≤ c.span.half) (d : T (fits binary64 p)) (k : Position p) (begin : n + c.span.half ≡ to_unsigned 64 p + 1) (behind : f ≡ fraction p)
+    (i : Inner p c.span.half len) (left : l ≡ sinc_at s.table s.a c.span (place_from c.span n) f) where
+  both_lane : (b : List Float) (r : Float) → s.b ≡ Some b → r ≡ sinc_at s.table b c.span (place_from c.span n) f → Read c s p (record { l = l; r = r })
   unfolding pair_at
-  both_lane r e right = record {
+  both_lane b r e right = record {
     position = k;
     double = d;
-    later = later p span.half len h i;
-    pair = rw (e, left, right, lane s.table s.a span n f p begin behind, lane s.table s.b span n f p begin behind);
+    later = later p c.span.half len h i;
+    pair = rw (kind, e, left, right, lane s.table s.a c.span n f p begin behind, lane s.table b c.span n f p begin behind);
   }
 
-  mono-lane : stereo ≡ false → Read span stereo s p l f0
+  mono-lane : s.b ≡ None → Read c s p (record { l = l; r = f0 })
   unfolding pair_at
   mono-lane e = record {
     position = k;
     double = d;
-    later = later p span.half len h i;
-    pair = rw (e, left, lane s.table s.a span n f p begin behind);
+    later = later p c.span.half len h i;
+    pair = rw (kind, e, left, lane s.table s.a c.span n f p begin behind);
   }
 
 pub record Doubles (x : Next) : Type 0 where
@@ -89,43 +91,39 @@ pub record Doubles (x : Next) : Type 0 where
   pub p2 : T (fits binary64 x.p2)
   pub p3 : T (fits binary64 x.p3)
 
-pub record AllRead (span : SincSpan) (stereo : Bool) (s : Lent) (x : Next) (l r : Four) : Type 0 where
-  pub r0 : Read span stereo s x.p0 l.x0 r.x0
-  pub r1 : Read span stereo s x.p1 l.x1 r.x1
-  pub r2 : Read span stereo s x.p2 l.x2 r.x2
-  pub r3 : Read span stereo s x.p3 l.x3 r.x3
+pub record FourRead (c : Cold) (s : Sound) (x : Next) (l r : Four) : Type 0 where
+  pub r0 : Read c s x.p0 (record { l = l.x0; r = r.x0 })
+  pub r1 : Read c s x.p1 (record { l = l.x1; r = r.x1 })
+  pub r2 : Read c s x.p2 (record { l = l.x2; r = r.x2 })
+  pub r3 : Read c s x.p3 (record { l = l.x3; r = r.x3 })
 
 abbrev pub zeros : Four
 zeros = record { x0 = f0; x1 = f0; x2 = f0; x3 = f0 }
 
-module _ (span : SincSpan) (stereo : Bool) (s : Lent) (len : ℕ) (x : Next) (n : Starts) (f l : Four) (h : 2 ≤ span.half) (d : Doubles x) (k : Positions x) (b : Begun span.half x n f) (i : AllInner x span.half len)
-    (left : l ≡ sinc_four s.table s.a span n f) where
-  pub both_read : (r : Four) → stereo ≡ true → r ≡ sinc_four s.table s.b span n f → AllRead span stereo s x l r
+module _ (c : Cold) (s : Sound) (kind : c.interp ≡ Sinc) (len : ℕ) (x : Next) (n : Starts) (f l : Four) (h : 2 ≤ c.span.half) (d : Doubles x) (k : Positions x) (b : Begun c.span.half x n f) (i : AllInner x c.span.half len)
+    (left : l ≡ sinc_four s.table s.a c.span n f) where
+  pub both_read : (xs : List Float) (r : Four) → s.b ≡ Some xs → r ≡ sinc_four s.table xs c.span n f → FourRead c s x l r
   unfolding sinc_four
-  both_read r e right = record {
-    r0 = both_lane span stereo s len n.n0 f.x0 x.p0 l.x0 h d.p0 k.p0 b.n0 b.f0 i.p0 (ap (λ (v : Four). v.x0) left) r.x0 e (ap (λ (v : Four). v.x0) right);
-    r1 = both_lane span stereo s len n.n1 f.x1 x.p1 l.x1 h d.p1 k.p1 b.n1 b.f1 i.p1 (ap (λ (v : Four). v.x1) left) r.x1 e (ap (λ (v : Four). v.x1) right);
-    r2 = both_lane span stereo s len n.n2 f.x2 x.p2 l.x2 h d.p2 k.p2 b.n2 b.f2 i.p2 (ap (λ (v : Four). v.x2) left) r.x2 e (ap (λ (v : Four). v.x2) right);
-    r3 = both_lane span stereo s len n.n3 f.x3 x.p3 l.x3 h d.p3 k.p3 b.n3 b.f3 i.p3 (ap (λ (v : Four). v.x3) left) r.x3 e (ap (λ (v : Four). v.x3) right);
+  both_read xs r e right = record {
+    r0 = both_lane c s kind len n.n0 f.x0 x.p0 l.x0 h d.p0 k.p0 b.n0 b.f0 i.p0 (ap (λ (v : Four). v.x0) left) xs r.x0 e (ap (λ (v : Four). v.x0) right);
+    r1 = both_lane c s kind len n.n1 f.x1 x.p1 l.x1 h d.p1 k.p1 b.n1 b.f1 i.p1 (ap (λ (v : Four). v.x1) left) xs r.x1 e (ap (λ (v : Four). v.x1) right);
+    r2 = both_lane c s kind len n.n2 f.x2 x.p2 l.x2 h d.p2 k.p2 b.n2 b.f2 i.p2 (ap (λ (v : Four). v.x2) left) xs r.x2 e (ap (λ (v : Four). v.x2) right);
+    r3 = both_lane c s kind len n.n3 f.x3 x.p3 l.x3 h d.p3 k.p3 b.n3 b.f3 i.p3 (ap (λ (v : Four). v.x3) left) xs r.x3 e (ap (λ (v : Four). v.x3) right);
   }
 
-  pub mono-read : stereo ≡ false → AllRead span stereo s x l zeros
+  pub mono-read : s.b ≡ None → FourRead c s x l zeros
   unfolding sinc_four
   mono-read e = record {
-    r0 = mono-lane span stereo s len n.n0 f.x0 x.p0 l.x0 h d.p0 k.p0 b.n0 b.f0 i.p0 (ap (λ (v : Four). v.x0) left) e;
-    r1 = mono-lane span stereo s len n.n1 f.x1 x.p1 l.x1 h d.p1 k.p1 b.n1 b.f1 i.p1 (ap (λ (v : Four). v.x1) left) e;
-    r2 = mono-lane span stereo s len n.n2 f.x2 x.p2 l.x2 h d.p2 k.p2 b.n2 b.f2 i.p2 (ap (λ (v : Four). v.x2) left) e;
-    r3 = mono-lane span stereo s len n.n3 f.x3 x.p3 l.x3 h d.p3 k.p3 b.n3 b.f3 i.p3 (ap (λ (v : Four). v.x3) left) e;
+    r0 = mono-lane c s kind len n.n0 f.x0 x.p0 l.x0 h d.p0 k.p0 b.n0 b.f0 i.p0 (ap (λ (v : Four). v.x0) left) e;
+    r1 = mono-lane c s kind len n.n1 f.x1 x.p1 l.x1 h d.p1 k.p1 b.n1 b.f1 i.p1 (ap (λ (v : Four). v.x1) left) e;
+    r2 = mono-lane c s kind len n.n2 f.x2 x.p2 l.x2 h d.p2 k.p2 b.n2 b.f2 i.p2 (ap (λ (v : Four). v.x2) left) e;
+    r3 = mono-lane c s kind len n.n3 f.x3 x.p3 l.x3 h d.p3 k.p3 b.n3 b.f3 i.p3 (ap (λ (v : Four). v.x3) left) e;
   }
 
 -- four frames more
-pub keeps-four : (span : SincSpan) (stereo : Bool) (s : Lent) (qs ls rs qs' ls' rs' : List Float) (at : ℕ) (x : Next) (l r : Four) → at + 4 ≤ 64 → AllRead span stereo s x l r
-    → qs' ≡ set (set (set (set qs at x.p0) (at + 1) x.p1) (at + 2) x.p2) (at + 3) x.p3
-    → ls' ≡ set (set (set (set ls at l.x0) (at + 1) l.x1) (at + 2) l.x2) (at + 3) l.x3
-    → rs' ≡ set (set (set (set rs at r.x0) (at + 1) r.x1) (at + 2) r.x2) (at + 3) r.x3
-    → Kept span stereo s qs ls rs → Kept span stereo s qs' ls' rs'
-keeps-four span stereo s qs ls rs qs' ls' rs' at x l r b w same-q same-l same-r h =
-    keeps span stereo s _ _ _ qs' ls' rs' (at + 3) _ _ _ (omega arith) w.r3 same-q same-l same-r
-    (keeps span stereo s _ _ _ _ _ _ (at + 2) _ _ _ (omega arith) w.r2 refl refl refl
-    (keeps span stereo s _ _ _ _ _ _ (at + 1) _ _ _ (omega arith) w.r1 refl refl refl
-    (keeps span stereo s _ _ _ _ _ _ at _ _ _ (omega arith) w.r0 refl refl refl h)))
+pub keeps-four : (c : Cold) (s : Sound) (ks ks' : List Kept) (at : ℕ) (x : Next) (l r : Four) → at + 4 ≤ 64 → FourRead c s x l r → ks' ≡ kept_from at x l r ks → AllRead c s at ks → AllRead c s (at + 4) ks'
+keeps-four c s ks ks' at x l r b w same h =
+    keeps c s _ ks' (at + 3) (at + 4) _ _ (omega arith) (omega arith) w.r3 same
+    (keeps c s _ _ (at + 2) (at + 3) _ _ (omega arith) (omega arith) w.r2 refl
+    (keeps c s _ _ (at + 1) (at + 2) _ _ (omega arith) (omega arith) w.r1 refl
+    (keeps c s _ _ at (at + 1) _ _ (omega arith) refl w.r0 refl h)))

@@ -1,12 +1,12 @@
--- The places of taps that are kept are those of every four parts that test as the last: at first of none. Assumes nothing.
+-- The places of taps that are kept are those of every four parts that test as the last. Assumes nothing.
 use mathlib.Core.Path.{◌≡◌, sym, subst}
-use mathlib.Core.Bool.{true, false}
+use mathlib.Core.Bool.{true, false, true≢false}
 use mathlib.Core.List.{List}
-use Prim.Native.Nat.{ℕ, ◌+◌, ◌*◌, ◌<◌}
-use native.Mathlib.Omega.{arith}
+use Rattle.std.proofs.Common.{Option, None, Some}
+use Prim.Native.Nat.{ℕ, ◌+◌, ◌*◌}
 use lib.Dec.{T, eqb, eqb→eq}
-use lib.Ieee.Fits.{down_pos, and_l, and_r, round-fits, nan-fits, inf-fits}
-use lib.Ieee.{Float, nan, inf, fin, binary32, up, down, eq, of_bits, fits}
+use lib.Ieee.Fits.{and_l, round-fits, nan-fits, inf-fits}
+use lib.Ieee.{Float, nan, inf, fin, binary32, up, down, eq, fits}
 use Rattle.exact.specs.Narrow.{narrowed}
 use Rattle.exact.specs.Value.{plus}
 use Rattle.interp.specs.Position.{fraction}
@@ -15,9 +15,9 @@ use Rattle.interp.specs.declared.sinc.SincSpan.{SincSpan}
 use Rattle.lanes.specs.declared.four.Four.{Four}
 use Rattle.lanes.specs.declared.four.Starts.{Starts}
 use Rattle.segments.specs.declared.ahead.Next.{Next}
-use Rattle.segments.specs.Ahead.{Singles, Placed}
+use Rattle.segments.specs.Ahead.{Singles, Placed, as_last, PlacedBy}
 use Rattle.segments.proofs.Fours.{Begun}
-use Rattle.segments.proofs.Kept.{one_way}
+use Rattle.segments.proofs.Kept.{one_way, alike-of}
 
 -- ---- how far a position lies behind its frame is a single
 narrowed-fits : (x : Float) → T (fits binary32 (narrowed x))
@@ -55,21 +55,6 @@ placed span last es ps p s r f q z a k h = record {
     at : (x y : Float) (j : ℕ) → Part x → Part y → T (fits binary32 x) → T (fits binary32 y) → T (eq x y) → Spot span y es ps k j → Spot span x es ps k j
     at x y j c d g i t u = subst (λ (v : Float). Spot span v es ps k j) (sym (only_part x y c.0 d.0 g i t)) u
 
--- ---- at first
--- -1.0, which no part is
-abbrev none : Float
-none = of_bits binary32 0xbf80_0000
-
-no_part : (x : Float) → T (plus x) → T (eq x none) → ⊥
-unfolding eq of_bits
-no_part nan p t = p
-no_part (inf s) p t = p
-no_part (fin true m e) p t = p
-no_part (fin false m e) p t =
-    let a : m * up e * 1 ≡ 1 * 1 * down e = eqb→eq (m * up e * 1) (1 * 1 * down e) (and_l (eqb (m * up e * 1) (1 * 1 * down e)) _ t) in
-    let z : m * up e * 1 ≡ 0 = eqb→eq (m * up e * 1) 0 (and_r (eqb (m * up e * 1) (1 * 1 * down e)) _ t) in
-    let d : 0 < down e = down_pos e in
-    omega arith
-
-pub none-placed : (span : SincSpan) (es : List ℕ) (ps : List Float) → Placed span (record { x0 = none; x1 = none; x2 = none; x3 = none }) es ps
-none-placed span es ps f q z a = absurd (no_part f.x0 q.f0.0 a.x0)
+pub rows-of : (span : SincSpan) (last : Option Four) (f : Four) (es : List ℕ) (ps : List Float) → Parts f → Singles f → as_last f last ≡ true → PlacedBy span last es ps → Rows span f es ps (2 * span.half)
+rows-of span None f es ps p s e h = absurd (true≢false (sym e))
+rows-of span (Some g) f es ps p s e h = h f p s (alike-of f g e)

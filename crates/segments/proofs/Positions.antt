@@ -28,7 +28,7 @@ use Rattle.program.specs.declared.region.LoopMode.TheVariants.{NoLoop, OneShot, 
 use Rattle.player.proofs.Within.{round-within, zero_of, left}
 use Rattle.player.specs.Bounds.{Step, LoopOk, Wrapped, bound}
 use Rattle.segments.specs.Source.{at_end, current_loop}
-use Rattle.segments.specs.Segment.{ends_now, fast_off, frame_with, frame_after}
+use Rattle.segments.specs.Segment.{ends_now, fast_off, frame_after}
 use Rattle.segments.specs.declared.source.Source.{Source}
 
 -- ---- a sum
@@ -256,6 +256,6 @@ pub frame-position : (e : Float) (was : Bool) (v : Source) → Position v.hot.po
 unfolding frame_after fast_off
 frame-position e was v h = go (ends_now was v.hot)
   where
-    go : (b : Bool) → Position (cond b (frame_with e v (fast_off v.hot)) (frame_with e v v.hot)).hot.pos
+    go : (b : Bool) → Position (cond b (fast_off v.hot) v.hot).pos
     go true = h
     go false = h

@@ -4,13 +4,13 @@ use Rattle.player.specs.declared.LoopRt.{LoopRt}
 use mathlib.Core.Path.{◌≡◌}
 use mathlib.Core.Bool.{Bool, false}
 use lib.Ieee.{Float}
-use Rattle.interp.specs.declared.channels.Pair.{Pair}
+use Rattle.exact.specs.declared.pair.Pair.{Pair}
 use Rattle.player.specs.declared.Hot.{Hot}
 use Rattle.player.specs.declared.Cold.{Cold}
-use Rattle.segments.specs.Source.{Lent, current_loop, place_in, at_end, is_unity, frame_in, crossfaded, stepped, heard_in, read_frame}
+use Rattle.segments.specs.Source.{Sound, current_loop, place_in, at_end, is_unity, frame_in, crossfaded, stepped, heard_in, read_frame}
 
 -- lp, p, e, u, v and w are what the functions on the way answer
-pub heard : (c : Cold) (s : Lent) (h : Hot) (lp : Option LoopRt) (p : Float) (e u : Bool) (v w : Pair)
+pub heard : (c : Cold) (s : Sound) (h : Hot) (lp : Option LoopRt) (p : Float) (e u : Bool) (v w : Pair Float)
     → c.silent ≡ false
     → h.data_ended ≡ false
     → lp ≡ current_loop h.env.state c.loop_mode c.lp

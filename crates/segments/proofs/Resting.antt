@@ -1,10 +1,12 @@
 -- Plain frames: what one of them is, and what a run of them leaves. Assumes nothing.
-use Rattle.std.proofs.Common.{None, Option, Some}
+use Rattle.std.proofs.Common.{None, Option, Some, IfSome, option_map, unwrap_or}
 use Rattle.player.specs.declared.LoopRt.{LoopRt}
+use Rattle.player.specs.declared.Fade.{Fade}
+use Rattle.segments.specs.declared.segment.Turn.TheVariants.{Sounds}
 use mathlib.Core.Path.{◌≡◌, refl, sym, ap, subst, ◌∙◌}
-use mathlib.Core.Bool.{Bool, true, false, not, true≢false, ◌&&◌, ◌||◌, beq, cond}
+use mathlib.Core.Bool.{Bool, true, false, not, true≢false, ◌&&◌, ◌||◌, beq}
 use mathlib.Core.List.{List}
-use Prim.Native.Nat.{ℕ, zero, suc, ◌+◌, ◌-◌, ◌*◌, ◌^◌, ◌≤◌, ◌<◌, min}
+use Prim.Native.Nat.{ℕ, zero, suc, ◌+◌, ◌-◌, ◌*◌, ◌^◌, ◌≤◌, ◌<◌}
 use native.Mathlib.Nat.{add-zero, add-suc, mul-one, mul-pos, mul_right_comm, eq_of_mul-eq-mul_right, lt_irrefl}
 use native.Mathlib.Numerals.{add-one}
 use native.Mathlib.Omega.{arith}
@@ -27,7 +29,7 @@ use Rattle.filter.specs.declared.FilterShape.{FilterShape}
 use Rattle.filter.specs.Filter.{chained}
 use Rattle.interp.specs.Position.{Position, first, double, floored, is_whole, looped}
 use Rattle.interp.specs.Points.{frame_at}
-use Rattle.interp.specs.declared.channels.Pair.{Pair}
+use Rattle.exact.specs.declared.pair.Pair.{Pair}
 use Rattle.interp.proofs.Difference.{differ}
 use Rattle.interp.proofs.Floor.{whole-by-index}
 use Rattle.interp.proofs.Frames.{inside}
@@ -36,9 +38,9 @@ use Rattle.player.specs.declared.Hot.{Hot}
 use Rattle.player.specs.declared.Cold.{Cold}
 use Rattle.segments.specs.declared.segment.Frame.{Frame}
 use Rattle.player.specs.Bounds.{LoopOk}
-use Rattle.segments.specs.Source.{Lent, current_loop, place_in, at_end, is_unity, frame_of, crossfaded, in_fade, read_frame, at_pos}
+use Rattle.segments.specs.Source.{Sound, current_loop, place_in, at_end, is_unity, frame_of, crossfaded, with_fade, in_fade, no_sound, read_frame, at_pos}
 use Rattle.segments.specs.Segment.{Run, frame_next, frame_after, ends_now, run_one, run_for, added, share}
-use Rattle.segments.specs.Plain.{sustains, is_resting, is_plain, is_silent, plain_end, FadeSmall, plain_share, added_run, run_from}
+use Rattle.segments.specs.Plain.{sustains, is_resting, is_steady, is_plain, is_silent, before_fade, plain_end, FadeSmall, Reaches, second_at, plain_share, added_run, run_from}
 use Rattle.player.proofs.Within.{round-within}
 use Rattle.segments.proofs.Reading.{heard}
 
@@ -168,34 +170,35 @@ pub is-double : (p : Float) (m : ℕ) → T (fits binary64 p) → 0 < m → m �
 is-double p m f z h e = same_number p (double m) m f (double-fits m) (double-value m (omega arith)) z e
 
 -- ---- before the end of plain frames no loop turns back, no fade has begun and the sample has not ended
-fade-part : (b : Bool) (x y m : ℕ) → m < cond b (min x y) y → (m < y) × (b ≡ true → m < x)
-fade-part true x y m h = (omega arith, λ (e : true ≡ true). omega arith)
-fade-part false x y m h = (h, λ (e : false ≡ true). absurd (true≢false (sym e)))
+before-end : (end m : ℕ) (f : Option Fade) → m < before_fade end f → m < end
+before-end end m None h = h
+before-end end m (Some f) h = omega arith
 
 in_place : (lp : Option LoopRt) (last m : ℕ) → LoopOk lp → m ≤ 8589934592 → m < plain_end lp last → place_in lp (double m) ≡ double m
 unfolding place_in looped plain_end
 in_place None last m ok far h = refl
 in_place (Some l) last m ok far h =
-    let q = fade-part (ltb 0 l.xf) l.xf_out_start (l.end + 1) m h in
-    sym (stays (double m) m (l.end + 1) (double (l.end + 1 - l.start)) 8589934592 (double-position m far) (sym (double-index m far)) q.0 (omega (arith, ok.1)))
+    sym (stays (double m) m (l.end + 1) (double (l.end + 1 - l.start)) 8589934592 (double-position m far) (sym (double-index m far)) (before-end _ m l.fade h) (omega (arith, ok.1)))
 
 not-ended : (lp : Option LoopRt) (last m : ℕ) → last < 4294967295 → m < plain_end lp last → at_end lp last (double m) ≡ false
 unfolding at_end plain_end
 not-ended None last m l h = double-before m last h (omega arith)
 not-ended (Some r) last m l h = refl
 
-no_third : (a b c : Bool) → (a ≡ true → c ≡ false) → a && (b && c) ≡ false
-no_third false b c h = refl
-no_third true false c h = refl
-no_third true true c h = h refl
+no_second : (a b : Bool) → b ≡ false → a && b ≡ false
+no_second true b e = e
+no_second false b e = refl
 
-unfaded : (c : Cold) (s : Lent) (lp : Option LoopRt) (last m : ℕ) (stored : Bool) (v : Pair) → FadeSmall lp → m ≤ 8589934592 → m < plain_end lp last → crossfaded c s lp stored (double m) v ≡ v
+unfaded : (c : Cold) (s : Sound) (lp : Option LoopRt) (last m : ℕ) (stored : Bool) (v : Pair Float) → FadeSmall lp → m ≤ 8589934592 → m < plain_end lp last → crossfaded c s lp stored (double m) v ≡ v
 unfolding crossfaded plain_end in_fade
 unfaded c s None last m stored v small far h = refl
-unfaded c s (Some l) last m stored v small far h =
-    let q = fade-part (ltb 0 l.xf) l.xf_out_start (l.end + 1) m h in
-    rw (no_third (ltb 0 l.xf) (le (double l.start) (floored (double m))) (le (double l.xf_out_start) (floored (double m)))
-    (λ (e : ltb 0 l.xf ≡ true). floor-below l.xf_out_start (double m) (double-position m far) (double-fits m) (omega arith) (double-before m l.xf_out_start (q.1 e) (omega arith))))
+unfaded c s (Some l) last m stored v small far h = go l.fade small h
+  where
+    go : (f : Option Fade) → IfSome f (λ g. g.start < 4294967296) → m < before_fade (l.end + 1) f → with_fade c s l f stored (double m) v ≡ v
+    go None small h = refl
+    go (Some f) small h =
+        rw (no_second (le (double l.start) (floored (double m))) (le (double f.start) (floored (double m)))
+        (floor-below f.start (double m) (double-position m far) (double-fits m) (omega arith) (double-before m f.start (omega arith) (omega arith))))
 
 -- ---- one frame
 pub record Plain (c : Cold) (h : Hot) (lp : Option LoopRt) (m : ℕ) : Type 0 where
@@ -208,16 +211,27 @@ pub record Plain (c : Cold) (h : Hot) (lp : Option LoopRt) (m : ℕ) : Type 0 wh
   pub far : m ≤ 8589934592
   pub before : m < plain_end lp c.last
 
-abbrev plain_frame : Cold → Lent → Hot → ℕ → Frame
-plain_frame c s h m = record { hot = at_pos (double (m + 1)) h; value = h.env.value; done = false; l = get_or s.a m f0; r = cond c.stereo (get_or s.b m f0) f0 }
+abbrev plain_frame : Cold → Sound → Hot → ℕ → Frame
+plain_frame c s h m = record { hot = at_pos (double (m + 1)) h; value = h.env.value; heard = record { l = get_or s.a m f0; r = second_at s.b m } }
 
 stored-channel : (xs : List Float) (m : ℕ) → m ≤ 8589934592 → m < length xs → get_or xs m f0 ≡ frame_at xs (to_unsigned 64 (double m) + 42)
 stored-channel xs m far h =
     ap (λ (n : ℕ). get_or xs n f0) (omega arith) ∙ inside xs (m + 42) f0 (omega arith) (omega arith) ∙ ap (λ (n : ℕ). frame_at xs (n + 42)) (sym (double-index m far))
 
-second-channel : (t : Bool) (xs : List Float) (m : ℕ) → m ≤ 8589934592 → (t ≡ true → m < length xs) → cond t (get_or xs m f0) f0 ≡ cond t (frame_at xs (to_unsigned 64 (double m) + 42)) f0
-second-channel true xs m far h = stored-channel xs m far (h refl)
-second-channel false xs m far h = refl
+second-channel : (b : Option (List Float)) (m : ℕ) → m ≤ 8589934592 → IfSome b (λ xs. m < length xs) → second_at b m ≡ unwrap_or (option_map (λ xs. frame_at xs (to_unsigned 64 (double m) + 42)) b) f0
+second-channel None m far h = refl
+second-channel (Some xs) m far h = stored-channel xs m far h
+
+pub within : (b : Option (List Float)) (k n : ℕ) → k < n → IfSome b (λ xs. n ≤ length xs) → IfSome b (λ xs. k < length xs)
+within None k n l h = tt
+within (Some xs) k n l h = omega arith
+
+pub reaches : (s : Sound) (m n : ℕ) → m ≤ n → Reaches s n → Reaches s m
+reaches s m n l r = (omega (arith, r.0), go s.b r.1)
+  where
+    go : (b : Option (List Float)) → IfSome b (λ xs. n ≤ length xs) → IfSome b (λ xs. m ≤ length xs)
+    go None h = tt
+    go (Some xs) h = omega arith
 
 -- what a plain frame's tests say
 pub record Tests (c : Cold) (h : Hot) : Type 0 where
@@ -229,23 +243,23 @@ pub record Tests (c : Cold) (h : Hot) : Type 0 where
   pub rests : is_resting h.env ≡ true
 
 tests : (c : Cold) (h : Hot) → is_plain c h ≡ true → Tests c h
-unfolding is_plain
+unfolding is_plain is_steady
 tests c h e =
     let r : Bool = is_resting h.env in
     let g : Bool = not (lt_z (pos 0) h.data_delay) in
     let f : Bool = not h.data_ended in
     let d : Bool = eqb c.n_filters 0 in
     let b : Bool = not c.silent in
-    let e₁ = both_true (eq c.step one) (b && (d && (f && (g && r)))) e in
-    let e₂ = both_true b (d && (f && (g && r))) e₁.1 in
-    let e₃ = both_true d (f && (g && r)) e₂.1 in
-    let e₄ = both_true f (g && r) e₃.1 in
+    let e₁ = both_true (eq c.step one) (b && (f && (d && (g && r)))) e in
+    let e₂ = both_true b (f && (d && (g && r))) e₁.1 in
+    let e₃ = both_true f (d && (g && r)) e₂.1 in
+    let e₄ = both_true d (g && r) e₃.1 in
     let e₅ = both_true g r e₄.1 in
     record {
       step = e₁.0;
       sounds = not-true c.silent e₂.0;
-      unfiltered = eqb→eq c.n_filters 0 (holds d e₃.0);
-      going = not-true h.data_ended e₄.0;
+      unfiltered = eqb→eq c.n_filters 0 (holds d e₄.0);
+      going = not-true h.data_ended e₃.0;
       begun = not-true (lt_z (pos 0) h.data_delay) e₅.0;
       rests = e₅.1;
     }
@@ -254,24 +268,24 @@ unity-at : (s : Float) (m : ℕ) → m ≤ 8589934592 → eq s one ≡ true → 
 unfolding is_unity
 unity-at s m far e = rw (e, double-whole m far)
 
-stored-pair : (c : Cold) (s : Lent) (m : ℕ) → m ≤ 8589934592 → m < length s.a → (c.stereo ≡ true → m < length s.b)
-    → ◌≡◌ {A = Pair} (record { l = get_or s.a m f0; r = cond c.stereo (get_or s.b m f0) f0 }) (frame_of c.interp c.span c.stereo s true (double m))
+stored-pair : (c : Cold) (s : Sound) (m : ℕ) → m ≤ 8589934592 → m < length s.a → IfSome s.b (λ xs. m < length xs)
+    → ◌≡◌ {A = Pair Float} (record { l = get_or s.a m f0; r = second_at s.b m }) (frame_of c.interp c.span s true (double m))
 unfolding frame_of
-stored-pair c s m far a b = rw (stored-channel s.a m far a, second-channel c.stereo s.b m far b)
+stored-pair c s m far a b = rw (stored-channel s.a m far a, second-channel s.b m far b)
 
-read_plain : (c : Cold) (s : Lent) (h : Hot) (lp : Option LoopRt) (m : ℕ) → Plain c h lp m → Tests c h → m < length s.a → (c.stereo ≡ true → m < length s.b)
-    → read_frame c s h ≡ record { hot = at_pos (double (m + 1)) h; l = get_or s.a m f0; r = cond c.stereo (get_or s.b m f0) f0 }
+read_plain : (c : Cold) (s : Sound) (h : Hot) (lp : Option LoopRt) (m : ℕ) → Plain c h lp m → Tests c h → m < length s.a → IfSome s.b (λ xs. m < length xs)
+    → read_frame c s h ≡ record { hot = at_pos (double (m + 1)) h; heard = record { l = get_or s.a m f0; r = second_at s.b m } }
 read_plain c s h lp m p t a b =
-    let v : Pair = record { l = get_or s.a m f0; r = cond c.stereo (get_or s.b m f0) f0 } in
+    let v : Pair Float = record { l = get_or s.a m f0; r = second_at s.b m } in
     sym (heard c s h lp (double m) false true v v t.sounds t.going p.loop
     (sym (ap (place_in lp) p.place ∙ in_place lp c.last m p.ok p.far p.before))
     (sym (not-ended lp c.last m p.last p.before)) refl
     (unity-at c.step m p.far t.step)
     (stored-pair c s m p.far a b)
     (sym (unfaded c s lp c.last m true v p.small p.far p.before)))
-    ∙ ap (λ (x : Float). record { hot = at_pos x h; l = v.l; r = v.r }) (double-next m c.step p.far t.step)
+    ∙ ap (λ (x : Float). record { hot = at_pos x h; heard = v }) (double-next m c.step p.far t.step)
 
-one-frame : (c : Cold) (s : Lent) (h : Hot) (lp : Option LoopRt) (m : ℕ) → Plain c h lp m → m < length s.a → (c.stereo ≡ true → m < length s.b) → frame_next c s h ≡ plain_frame c s h m
+one-frame : (c : Cold) (s : Sound) (h : Hot) (lp : Option LoopRt) (m : ℕ) → Plain c h lp m → m < length s.a → IfSome s.b (λ xs. m < length xs) → frame_next c s h ≡ Sounds (plain_frame c s h m)
 unfolding frame_next frame_after ends_now
 one-frame c s h lp m p a b =
     let t = tests c h p.plain in
@@ -282,24 +296,24 @@ one-frame c s h lp m p a b =
 pub end-small : (lp : Option LoopRt) (last : ℕ) → LoopOk lp → last < 4294967295 → plain_end lp last ≤ 4294967295
 unfolding plain_end
 end-small None last ok l = omega arith
-end-small (Some r) last ok l = lesser (ltb 0 r.xf) r.xf_out_start (r.end + 1) (omega (arith, ok.1))
+end-small (Some r) last ok l = lesser r.fade (r.end + 1) (omega (arith, ok.1))
   where
-    lesser : (b : Bool) (x y : ℕ) → y ≤ 4294967295 → cond b (min x y) y ≤ 4294967295
-    lesser true x y h = omega arith
-    lesser false x y h = h
+    lesser : (f : Option Fade) (y : ℕ) → y ≤ 4294967295 → before_fade y f ≤ 4294967295
+    lesser None y h = h
+    lesser (Some f) y h = omega arith
 
 -- an unfiltered frame more
-unfiltered-one : (c : Cold) (slots : List FilterShape) (s : Lent) (j : ℕ) (x : Run) (f : Frame) → c.n_filters ≡ 0 → x.done ≡ false → frame_next c s x.hot ≡ f → f.done ≡ false
+unfiltered-one : (c : Cold) (slots : List FilterShape) (s : Sound) (j : ℕ) (x : Run) (f : Frame) → c.n_filters ≡ 0 → x.done ≡ false → frame_next c s x.hot ≡ Sounds f
     → run_one c slots s j x
     ≡ record {
       hot = f.hot;
       states = x.states;
-      left = added x.left j (share (c.gain ⊗ f.value) c.ll c.rl f.l f.r);
-      right = added x.right j (share (c.gain ⊗ f.value) c.lr c.rr f.l f.r);
+      left = added x.left j (share (c.gain ⊗ f.value) c.matrix.ll c.matrix.rl f.heard.l f.heard.r);
+      right = added x.right j (share (c.gain ⊗ f.value) c.matrix.lr c.matrix.rr f.heard.l f.heard.r);
       done = false;
     }
 unfolding run_one chained
-unfiltered-one c slots s j x f z d e g = rw (d, e, g, z)
+unfiltered-one c slots s j x f z d e = rw (d, e, z)
 
 -- the player i frames on
 hot_at : Hot → ℕ → ℕ → Hot
@@ -311,43 +325,42 @@ unfolding hot_at
 hot-at h m zero e = ap (λ (x : Float). at_pos x h) (e ∙ ap double (sym (add-zero m)))
 hot-at h m (suc k) e = refl
 
-module _ (c : Cold) (slots : List FilterShape) (s : Lent) (h : Hot) (lp : Option LoopRt) (m n : ℕ) (plain : is_plain c h ≡ true) (place : h.pos ≡ double m) (loop : lp ≡ current_loop h.env.state c.loop_mode c.lp)
-    (ok : LoopOk lp) (small : FadeSmall lp) (last : c.last < 4294967295) (end : m + n ≤ plain_end lp c.last) (left : m + n ≤ length s.a) (right : c.stereo ≡ true → m + n ≤ length s.b) where
+module _ (c : Cold) (slots : List FilterShape) (s : Sound) (h : Hot) (lp : Option LoopRt) (m n : ℕ) (plain : is_plain c h ≡ true) (place : h.pos ≡ double m) (loop : lp ≡ current_loop h.env.state c.loop_mode c.lp)
+    (ok : LoopOk lp) (small : FadeSmall lp) (last : c.last < 4294967295) (end : m + n ≤ plain_end lp c.last) (left : m + n ≤ length s.a) (right : IfSome s.b (λ xs. m + n ≤ length xs)) where
   far : m + n ≤ 4294967295
   far = let e = end-small lp c.last ok last in omega arith
 
   plain_at : (i : ℕ) → i < n → Plain c (hot_at h m i) lp (m + i)
-  unfolding hot_at is_plain
+  unfolding hot_at is_plain is_steady
   plain_at zero k = record { plain = plain; place = place ∙ ap double (sym (add-zero m)); loop = loop; ok = ok; small = small; last = last; far = omega (arith, far); before = omega arith }
   plain_at (suc i) k = record { plain = plain; place = refl; loop = loop; ok = ok; small = small; last = last; far = omega (arith, far); before = omega arith }
 
-  frame-at : (i : ℕ) → i < n
-      → frame_next c s (hot_at h m i) ≡ record { hot = hot_at h m (suc i); value = h.env.value; done = false; l = get_or s.a (m + i) f0; r = cond c.stereo (get_or s.b (m + i) f0) f0 }
+  frame-at : (i : ℕ) → i < n → frame_next c s (hot_at h m i) ≡ Sounds (record { hot = hot_at h m (suc i); value = h.env.value; heard = record { l = get_or s.a (m + i) f0; r = second_at s.b (m + i) } })
   unfolding hot_at
   frame-at zero k =
-      one-frame c s h lp (m + 0) (plain_at zero k) (omega arith) (λ (e : c.stereo ≡ true). let r = right e in omega arith)
-      ∙ ap (λ (x : Float). record { hot = at_pos x h; value = h.env.value; done = false; l = get_or s.a (m + 0) f0; r = cond c.stereo (get_or s.b (m + 0) f0) f0 }) (ap double (omega arith))
+      one-frame c s h lp (m + 0) (plain_at zero k) (omega arith) (within s.b (m + 0) (m + n) (omega arith) right)
+      ∙ ap (λ (x : Float). Sounds (record { hot = at_pos x h; value = h.env.value; heard = record { l = get_or s.a (m + 0) f0; r = second_at s.b (m + 0) } })) (ap double (omega arith))
   frame-at (suc i) k =
-      one-frame c s (hot_at h m (suc i)) lp (m + suc i) (plain_at (suc i) k) (omega arith) (λ (e : c.stereo ≡ true). let r = right e in omega arith)
-      ∙ ap (λ (x : Float). record { hot = at_pos x h; value = h.env.value; done = false; l = get_or s.a (m + suc i) f0; r = cond c.stereo (get_or s.b (m + suc i) f0) f0 }) (ap double (omega arith))
+      one-frame c s (hot_at h m (suc i)) lp (m + suc i) (plain_at (suc i) k) (omega arith) (within s.b (m + suc i) (m + n) (omega arith) right)
+      ∙ ap (λ (x : Float). Sounds (record { hot = at_pos x h; value = h.env.value; heard = record { l = get_or s.a (m + suc i) f0; r = second_at s.b (m + suc i) } })) (ap double (omega arith))
 
   module _ (j : ℕ) (states outL outR : List Float) where
     abbrev from : Run
     from = record { hot = h; states = states; left = outL; right = outR; done = false }
 
     abbrev share_l : ℕ → Float
-    share_l = plain_share (c.gain ⊗ h.env.value) c.ll c.rl c.stereo s.a s.b m
+    share_l = plain_share (c.gain ⊗ h.env.value) c.matrix.ll c.matrix.rl s m
 
     abbrev share_r : ℕ → Float
-    share_r = plain_share (c.gain ⊗ h.env.value) c.lr c.rr c.stereo s.a s.b m
+    share_r = plain_share (c.gain ⊗ h.env.value) c.matrix.lr c.matrix.rr s m
 
     run-plain : (k : ℕ) → k ≤ n → run_from c slots s j k from ≡ record { hot = hot_at h m k; states = states; left = added_run share_l j k outL; right = added_run share_r j k outR; done = false }
     unfolding run_from added_run hot_at
     run-plain zero l = refl
     run-plain (suc k) l =
         let x : Run = record { hot = hot_at h m k; states = states; left = added_run share_l j k outL; right = added_run share_r j k outR; done = false } in
-        let f : Frame = record { hot = hot_at h m (suc k); value = h.env.value; done = false; l = get_or s.a (m + k) f0; r = cond c.stereo (get_or s.b (m + k) f0) f0 } in
-        ap (run_one c slots s (j + k)) (run-plain k (omega arith)) ∙ unfiltered-one c slots s (j + k) x f (tests c h plain).unfiltered refl (frame-at k (omega arith)) refl
+        let f : Frame = record { hot = hot_at h m (suc k); value = h.env.value; heard = record { l = get_or s.a (m + k) f0; r = second_at s.b (m + k) } } in
+        ap (run_one c slots s (j + k)) (run-plain k (omega arith)) ∙ unfiltered-one c slots s (j + k) x f (tests c h plain).unfiltered refl (frame-at k (omega arith))
 
     pub ran : ◌≡◌ {A = Run} (record { hot = at_pos (double (m + n)) h; states = states; left = added_run share_l j n outL; right = added_run share_r j n outR; done = false }) (run_from c slots s j n from)
     ran =
@@ -355,7 +368,7 @@ module _ (c : Cold) (slots : List FilterShape) (s : Lent) (h : Hot) (lp : Option
         ∙ sym (run-plain n (omega arith))
 
 -- ---- runs one after the other
-joined-runs : (c : Cold) (slots : List FilterShape) (s : Lent) (j k : ℕ) (x : Run) → run_from c slots s j k (run_for c slots s j x) ≡ run_for c slots s (j + k) x
+joined-runs : (c : Cold) (slots : List FilterShape) (s : Sound) (j k : ℕ) (x : Run) → run_from c slots s j k (run_for c slots s j x) ≡ run_for c slots s (j + k) x
 unfolding run_from run_for
 joined-runs c slots s j zero x = rw add-zero
 joined-runs c slots s j (suc k) x = ap (run_one c slots s (j + k)) (joined-runs c slots s j k x) ∙ ap (λ (i : ℕ). run_for c slots s i x) (sym (add-suc j k))
@@ -370,23 +383,23 @@ unfolding ne
 equals x y e = not-false (eq x y) e
 
 -- ---- one stored frame more
-pub one_more : (g x y : Float) (stereo : Bool) (a b : List Float) (p j i : ℕ) (out₀ out out' : List Float) (l r v : Float)
-    → out ≡ added_run (plain_share g x y stereo a b p) j i out₀
+pub one_more : (g x y : Float) (s : Sound) (p j i : ℕ) (out₀ out out' : List Float) (l r v : Float)
+    → out ≡ added_run (plain_share g x y s p) j i out₀
     → out' ≡ added out (j + i) v
     → v ≡ share g x y l r
-    → l ≡ get_or a (p + i) f0
-    → r ≡ cond stereo (get_or b (p + i) f0) f0
-    → out' ≡ added_run (plain_share g x y stereo a b p) j (i + 1) out₀
+    → l ≡ get_or s.a (p + i) f0
+    → r ≡ second_at s.b (p + i)
+    → out' ≡ added_run (plain_share g x y s p) j (i + 1) out₀
 unfolding added_run
-one_more g x y stereo a b p j i out₀ out out' l r v e s d f h = rw (s, d, f, h, e, add-one)
+one_more g x y s p j i out₀ out out' l r v e q d f h = rw (q, d, f, h, e, add-one)
 
 -- ---- no frame
-pub no_run : (c : Cold) (slots : List FilterShape) (s : Lent) (j : ℕ) (x : Run) → x ≡ run_from c slots s j (j - j) x
+pub no_run : (c : Cold) (slots : List FilterShape) (s : Sound) (j : ℕ) (x : Run) → x ≡ run_from c slots s j (j - j) x
 unfolding run_from
 no_run c slots s j x = let z : 0 ≡ j - j = omega arith in ap (λ (n : ℕ). run_from c slots s j n x) z
 
 -- ---- a run that goes on with plain frames, from frame j to frame n
-pub carried : (c : Cold) (slots : List FilterShape) (s : Lent) (j n : ℕ) (x₀ x y : Run) → j ≤ n → x ≡ run_for c slots s j x₀ → y ≡ run_from c slots s j (n - j) x → y ≡ run_for c slots s n x₀
+pub carried : (c : Cold) (slots : List FilterShape) (s : Sound) (j n : ℕ) (x₀ x y : Run) → j ≤ n → x ≡ run_for c slots s j x₀ → y ≡ run_from c slots s j (n - j) x → y ≡ run_for c slots s n x₀
 carried c slots s j n x₀ x y h e d =
     let z : j + (n - j) ≡ n = omega arith in
     d ∙ ap (run_from c slots s j (n - j)) e ∙ joined-runs c slots s j (n - j) x₀ ∙ ap (λ (i : ℕ). run_for c slots s i x₀) z
@@ -401,7 +414,7 @@ forward j k n stop a b f d l = go (ltb k n) (ltb→lt k n) (nltb→le k n)
 
 -- ---- silence
 silent-tests : (c : Cold) (h : Hot) → is_silent c h ≡ true → (c.silent ≡ true) × (c.n_filters ≡ 0) × (lt_z (pos 0) h.data_delay ≡ false) × (is_resting h.env ≡ true)
-unfolding is_silent
+unfolding is_silent is_steady
 silent-tests c h e =
     let r : Bool = is_resting h.env in
     let g : Bool = not (lt_z (pos 0) h.data_delay) in
@@ -420,19 +433,19 @@ no_end h = go h.data_ended (not h.offed)
     go true b = refl
     go false b = refl
 
-silent-frame : (c : Cold) (s : Lent) (h : Hot) → is_silent c h ≡ true → frame_next c s h ≡ record { hot = h; value = h.env.value; done = false; l = f0; r = f0 }
+silent-frame : (c : Cold) (s : Sound) (h : Hot) → is_silent c h ≡ true → frame_next c s h ≡ Sounds (record { hot = h; value = h.env.value; heard = no_sound })
 unfolding frame_next frame_after read_frame
 silent-frame c s h e =
     let t = silent-tests c h e in
     let r = resting h.env t.3 in
     rw (r.0, r.1, t.2, t.0, no_end h)
 
-module _ (c : Cold) (slots : List FilterShape) (s : Lent) (h : Hot) (j : ℕ) (states outL outR : List Float) (silent : is_silent c h ≡ true) where
+module _ (c : Cold) (slots : List FilterShape) (s : Sound) (h : Hot) (j : ℕ) (states outL outR : List Float) (silent : is_silent c h ≡ true) where
   abbrev nothing_l : Float
-  nothing_l = share (c.gain ⊗ h.env.value) c.ll c.rl f0 f0
+  nothing_l = share (c.gain ⊗ h.env.value) c.matrix.ll c.matrix.rl f0 f0
 
   abbrev nothing_r : Float
-  nothing_r = share (c.gain ⊗ h.env.value) c.lr c.rr f0 f0
+  nothing_r = share (c.gain ⊗ h.env.value) c.matrix.lr c.matrix.rr f0 f0
 
   pub ran-silent : (k : ℕ) → ◌≡◌ {A = Run} (record { hot = h; states = states; left = added_run (λ (i : ℕ). nothing_l) j k outL; right = added_run (λ (i : ℕ). nothing_r) j k outR; done = false })
       (run_from c slots s j k (record { hot = h; states = states; left = outL; right = outR; done = false }))
@@ -441,7 +454,7 @@ module _ (c : Cold) (slots : List FilterShape) (s : Lent) (h : Hot) (j : ℕ) (s
   ran-silent (suc k) =
       sym (ap (run_one c slots s (j + k)) (sym (ran-silent k))
       ∙ unfiltered-one c slots s (j + k) (record { hot = h; states = states; left = added_run (λ (i : ℕ). nothing_l) j k outL; right = added_run (λ (i : ℕ). nothing_r) j k outR; done = false })
-      (record { hot = h; value = h.env.value; done = false; l = f0; r = f0 }) (silent-tests c h silent).1 refl (silent-frame c s h silent) refl)
+      (record { hot = h; value = h.env.value; heard = no_sound }) (silent-tests c h silent).1 refl (silent-frame c s h silent))
 
 pub same_more : (v : Float) (j i : ℕ) (out₀ out out' : List Float) → out ≡ added_run (λ (n : ℕ). v) j i out₀ → out' ≡ added out (j + i) v → out' ≡ added_run (λ (n : ℕ). v) j (i + 1) out₀
 unfolding added_run

@@ -13,15 +13,17 @@ use Rattle.player.specs.declared.Hot.{Hot}
 use Rattle.player.specs.declared.Cold.{Cold}
 use Rattle.player.specs.declared.Player.{Player}
 use Rattle.segments.specs.declared.segment.Frame.{Frame}
-use Rattle.segments.specs.Source.{Lent}
+use Rattle.segments.specs.declared.segment.Turn.{Turn}
+use Rattle.segments.specs.declared.segment.Turn.TheVariants.{Over, Sounds}
+use Rattle.segments.specs.Source.{Sound}
 use Rattle.segments.specs.Segment.{Run, After, Rendered, frame_next, run_one, run_for, mixed, after_run, went_off, with_hot, played_of}
 
 -- a frame leaves what is done as it is
-still : (c : Cold) (fs : List FilterShape) (s : Lent) (j : ℕ) (x : Run) → x.done ≡ true → run_one c fs s j x ≡ x
+still : (c : Cold) (fs : List FilterShape) (s : Sound) (j : ℕ) (x : Run) → x.done ≡ true → run_one c fs s j x ≡ x
 unfolding run_one
 still c fs s j x p = rw p
 
-module _ (c : Cold) (fs : List FilterShape) (s : Lent) (x : Run) where
+module _ (c : Cold) (fs : List FilterShape) (s : Sound) (x : Run) where
   stays : (k d : ℕ) → (run_for c fs s k x).done ≡ true → run_for c fs s (k + d) x ≡ run_for c fs s k x
   unfolding run_for
   stays k zero p = rw add-zero
@@ -29,19 +31,19 @@ module _ (c : Cold) (fs : List FilterShape) (s : Lent) (x : Run) where
       rw add-suc
       (still c fs s (k + d) (run_for c fs s (k + d) x) (ap (λ (y : Run). y.done) (stays k d p) ∙ p) ∙ stays k d p)
 
-  module _ (R : Run) (f : Frame) (j : ℕ) (live : R.done ≡ false) (so_far : R ≡ run_for c fs s j x) (is : f ≡ frame_next c s R.hot) where
-    pub more : (v : Paired) → f.done ≡ false → v ≡ chained fs c.stereo c.n_filters (record { l = f.l; r = f.r; states = R.states }) → mixed c j R f v ≡ run_for c fs s (j + 1) x
+  module _ (R : Run) (y : Turn) (j : ℕ) (live : R.done ≡ false) (so_far : R ≡ run_for c fs s j x) (is : y ≡ frame_next c s R.hot) where
+    pub more : (f : Frame) (v : Paired) → y ≡ Sounds f → v ≡ chained fs c.stereo c.n_filters (record { l = f.heard.l; r = f.heard.r; states = R.states }) → mixed c j R f v ≡ run_for c fs s (j + 1) x
     unfolding run_for run_one
-    more v d e = rw (add-one, ← so_far, live, ← is, d, ← e)
+    more f v d e = rw (add-one, ← so_far, live, ← is, d, ← e)
 
-    last : f.done ≡ true → run_for c fs s (suc j) x ≡ record { hot = f.hot; states = R.states; left = R.left; right = R.right; done = true }
+    last : (h : Hot) → y ≡ Over h → run_for c fs s (suc j) x ≡ record { hot = h; states = R.states; left = R.left; right = R.right; done = true }
     unfolding run_for run_one
-    last d = rw (← so_far, live, ← is, d)
+    last h d = rw (← so_far, live, ← is, d)
 
-    pub ended : (n : ℕ) → j < n → f.done ≡ true → ◌≡◌ {A = After} (record { hot = f.hot; states = R.states; left = R.left; right = R.right }) (after_run (run_for c fs s n x))
-    ended n p d =
+    pub ended : (h : Hot) (n : ℕ) → j < n → y ≡ Over h → ◌≡◌ {A = After} (record { hot = h; states = R.states; left = R.left; right = R.right }) (after_run (run_for c fs s n x))
+    ended h n p d =
         let m : n ≡ suc j + (n - suc j) = omega arith in
-        let e : run_for c fs s n x ≡ record { hot = f.hot; states = R.states; left = R.left; right = R.right; done = true } = rw m (stays (suc j) (n - suc j) (ap (λ (y : Run). y.done) (last d)) ∙ last d) in
+        let e : run_for c fs s n x ≡ record { hot = h; states = R.states; left = R.left; right = R.right; done = true } = rw m (stays (suc j) (n - suc j) (ap (λ (z : Run). z.done) (last h d)) ∙ last h d) in
         sym (ap after_run e)
 
 -- a player's segment by its run

@@ -7,14 +7,16 @@ use Rattle.envelope.specs.declared.Env.{Env}
 use Rattle.envelope.specs.Envelope.{is_done, env_next, released, release_timed}
 use Rattle.filter.specs.declared.FilterShape.{FilterShape}
 use Rattle.filter.specs.Filter.{Paired, chained}
-use Rattle.exact.specs.Single.{◌⊕◌, ◌⊗◌, f0}
+use Rattle.exact.specs.Single.{◌⊕◌, ◌⊗◌}
 use Rattle.player.specs.declared.Hot.{Hot}
 use Rattle.player.specs.declared.Cold.{Cold}
 use Rattle.player.specs.declared.Player.{Player}
 use Rattle.segments.specs.declared.source.Source.{Source}
 use Rattle.segments.specs.declared.segment.Frame.{Frame}
 use Rattle.segments.specs.declared.segment.Played.{Played}
-use Rattle.segments.specs.Source.{Lent, read_frame}
+use Rattle.segments.specs.declared.segment.Turn.{Turn}
+use Rattle.segments.specs.declared.segment.Turn.TheVariants.{Over, Sounds}
+use Rattle.segments.specs.Source.{Sound, no_sound, read_frame}
 
 -- 6e-3 seconds
 abbrev pub off_fast : Float
@@ -30,29 +32,34 @@ fast_off h = record { env = released (release_timed off_fast h.env); pos = h.pos
 
 -- the frame v at the envelope's value e
 abbrev pub frame_with : Float → Source → Hot → Frame
-frame_with e v h = record { hot = h; value = e; done = false; l = v.l; r = v.r }
+frame_with e v h = record { hot = h; value = e; heard = v.heard }
 
 -- where it ends the data, the fast release begins
 unfoldable pub frame_after : Float → Bool → Source → Frame
-frame_after e was v = cond (ends_now was v.hot) (frame_with e v (fast_off v.hot)) (frame_with e v v.hot)
+frame_after e was v = frame_with e v (cond (ends_now was v.hot) (fast_off v.hot) v.hot)
 
-abbrev pub silent_frame : Float → Bool → Hot → Frame
-silent_frame e done h = record { hot = h; value = e; done = done; l = f0; r = f0 }
+abbrev pub silent_frame : Float → Hot → Frame
+silent_frame e h = record { hot = h; value = e; heard = no_sound }
 
 abbrev pub with_env : Env → ℤ → Hot → Hot
 with_env n d h = record { env = n; pos = h.pos; data_delay = d; data_ended = h.data_ended; offed = h.offed }
 
 -- One frame, with the envelope n after its step and its value e. Nothing comes of it where the envelope is done; during the delay it is
 -- silence and the sample waits.
-abbrev pub frame_at : Cold → Lent → Hot → Env → Float → Frame
+abbrev pub frame_at : Cold → Sound → Hot → Env → Float → Turn
 frame_at c s h n e =
-    cond (is_done n.state) (silent_frame e true (with_env n h.data_delay h))
-    (cond (lt_z (pos 0) h.data_delay) (silent_frame e false (with_env n (h.data_delay -ℤ pos 1) h))
-    (frame_after e h.data_ended (read_frame c s (with_env n h.data_delay h))))
+    cond (is_done n.state) (Over (with_env n h.data_delay h))
+    (cond (lt_z (pos 0) h.data_delay) (Sounds (silent_frame e (with_env n (h.data_delay -ℤ pos 1) h)))
+    (Sounds (frame_after e h.data_ended (read_frame c s (with_env n h.data_delay h)))))
 
 -- the envelope's step comes first
-unfoldable pub frame_next : Cold → Lent → Hot → Frame
+unfoldable pub frame_next : Cold → Sound → Hot → Turn
 frame_next c s h = frame_at c s h (env_next h.env).env (env_next h.env).value
+
+-- the player after it
+abbrev pub hot_of : Turn → Hot
+hot_of (Over h) = h
+hot_of (Sounds f) = f.hot
 
 -- ---- the mix
 
@@ -78,22 +85,21 @@ mixed c j s f v =
     record {
       hot = f.hot;
       states = v.states;
-      left = added s.left j (share g c.ll c.rl v.l v.r);
-      right = added s.right j (share g c.lr c.rr v.l v.r);
+      left = added s.left j (share g c.matrix.ll c.matrix.rl v.l v.r);
+      right = added s.right j (share g c.matrix.lr c.matrix.rr v.l v.r);
       done = false;
     }
 
-abbrev pub played : Cold → List FilterShape → ℕ → Run → Frame → Run
-played c slots j s f =
-    cond f.done (record { hot = f.hot; states = s.states; left = s.left; right = s.right; done = true })
-    (mixed c j s f (chained slots c.stereo c.n_filters (record { l = f.l; r = f.r; states = s.states })))
+abbrev pub played : Cold → List FilterShape → ℕ → Run → Turn → Run
+played c slots j s (Over h) = record { hot = h; states = s.states; left = s.left; right = s.right; done = true }
+played c slots j s (Sounds f) = mixed c j s f (chained slots c.stereo c.n_filters (record { l = f.heard.l; r = f.heard.r; states = s.states }))
 
 -- one frame more, unless the envelope is done
-unfoldable pub run_one : Cold → List FilterShape → Lent → ℕ → Run → Run
+unfoldable pub run_one : Cold → List FilterShape → Sound → ℕ → Run → Run
 run_one c slots s j x = cond x.done x (played c slots j x (frame_next c s x.hot))
 
 -- the first k frames
-unfoldable pub run_for : Cold → List FilterShape → Lent → ℕ → Run → Run
+unfoldable pub run_for : Cold → List FilterShape → Sound → ℕ → Run → Run
 run_for c slots s zero x = x
 run_for c slots s (suc k) x = run_one c slots s k (run_for c slots s k x)
 
@@ -128,6 +134,6 @@ played_of p x = record {
 }
 
 -- as many frames as the left part has
-unfoldable pub played_by : Lent → Player → List Float → List Float → Rendered
+unfoldable pub played_by : Sound → Player → List Float → List Float → Rendered
 played_by s p l r =
     played_of p (after_run (run_for p.cold p.slots s (length l) (record { hot = p.hot; states = p.states; left = l; right = r; done = false })))

@@ -1,23 +1,29 @@
 // Sinc frames read ahead, four at a time: the same tap of four frames is done side by side. A frame is kept with its position,
 // and whoever reads a frame looks its position up first, so that a guess of the positions can be wrong and costs only time.
-ghost use Rattle.std.specs.Prelude.{◌≡◌, true, ◌+◌, ◌≤◌, ◌<◌, T, length, get_or, set};
-ghost use Rattle.std.specs.Float.Ieee.{eq, lt, to_unsigned};
-ghost use Rattle.std.specs.Float.{nan};
+ghost use Rattle.std.specs.Prelude.{◌≡◌, ◌+◌, ◌≤◌, ◌<◌, length};
+ghost use Rattle.std.specs.Float.Ieee.{lt, to_unsigned};
 ghost use Rattle.exact.specs.Order.{magnitude};
 ghost use Rattle.exact.specs.Single.{single, ◌⊖◌, ◌⊗◌, f1, f16};
 ghost use Rattle.interp.specs.Position.{Position};
-ghost use Rattle.interp.specs.declared.Interp.TheVariants.{Sinc};
 ghost use Rattle.player.specs.Bounds.{Step, LoopOk, ColdOk};
-ghost use Rattle.segments.specs.Ahead.{Suited, Inner, Positions, AllInner, Kept, Alike, Placed};
+ghost use Rattle.segments.specs.Source.{sound_of};
+ghost use Rattle.segments.specs.Ahead.{is_even, is_suited, Suited, is_inner, all_inner, Positions, AllInner, AllRead, kept_from, are_alike, as_last, PlacedBy};
 
-use super::source::{looping, place};
+use super::source::{Lent, looping, place};
 use exact::order::abs_f32;
+use exact::pair::Pair;
 use interp::Interp;
-use interp::channels::Both;
 use interp::position::{fraction, frame_index};
 use lanes::four::{Four, Starts, sinc_four};
 use lanes::places::Places;
 use player::{Cold, Hot, LoopRt};
+
+// A frame that was read ahead, and the position that it was read at.
+#[derive(Clone, Copy)]
+pub struct Kept {
+    pub at: f64,
+    pub heard: Pair<f32>,
+}
 
 // Four positions, each a step after the one before.
 #[derive(Clone, Copy)]
@@ -28,14 +34,6 @@ pub struct Next {
     pub p3: f64,
 }
 
-// No part is negative, so that none tests as these.
-const NO_PARTS: Four = Four {
-    x0: -1.0,
-    x1: -1.0,
-    x2: -1.0,
-    x3: -1.0,
-};
-
 // Whether every tap of a kernel but the first and the last is in the window, as reading four at a time asks.
 fn reaches(half: u16, fc: f32) -> bool
     ensures { result ≡ lt (magnitude ((single half ⊖ f1) ⊗ fc)) f16 }
@@ -43,46 +41,36 @@ fn reaches(half: u16, fc: f32) -> bool
     abs_f32(((half as f32) - 1.0) * fc) < 16.0
 }
 
-// Whether a player's frames can be read ahead. At a step of 1.0 most are read as stored, and reading them ahead is no use.
-pub fn suits(cold: Cold, a: &[f32], b: &[f32]) -> bool
-    requires { cold.span.half ≤ 40 }
-    ensures { (result ≡ true) → Suited cold a.now b.now }
+// Whether two channels have the same frames.
+fn is_even(lent: Lent<'_>) -> bool
+    ensures { result ≡ is_even (sound_of lent.entry) }
 {
-    if cold.silent {
-        return false;
-    }
-    if cold.step == 1.0 {
-        return false;
-    }
-    if cold.stereo {
-        if b.len() != a.len() {
-            return false;
-        }
-    }
-    let kind = cold.interp;
-    let span = cold.span;
-    if span.half < 2 {
-        return false;
-    }
-    match kind {
-        Interp::Linear => false,
-        Interp::Hermite => false,
-        Interp::Sinc => reaches(span.half, span.fc),
+    match lent.b {
+        Some(b) => b.len() == lent.a.len(),
+        None => true,
     }
 }
 
-// Whether the sample has every frame that the kernel draws on at p.
+// Whether a player's frames can be read ahead. At a step of 1.0 most are read as stored, and reading them ahead is no use.
+#[tactic(auto, unfolding(crate::specs::Ahead::is_suited))]
+pub fn suits(cold: Cold, lent: Lent<'_>) -> bool
+    ensures { result ≡ is_suited cold (sound_of lent.entry) }
+{
+    !cold.silent
+        && cold.step != 1.0
+        && matches!(cold.interp, Interp::Sinc)
+        && cold.span.half >= 2
+        && is_even(lent)
+        && reaches(cold.span.half, cold.span.fc)
+}
+
+// Whether the sample has every frame that the kernel draws on at p. A method of the span would still be handed both lengths.
 fn inner(p: f64, half: usize, len: usize) -> bool
     requires { Position p × (half ≤ 40) }
-    ensures { (result ≡ true) → Inner p half len }
+    ensures { result ≡ is_inner p half len }
 {
     let t = frame_index(p) as usize;
-    if t + 1 >= half {
-        if t + half < len {
-            return true;
-        }
-    }
-    false
+    t + 1 >= half && t + half < len
 }
 
 // The frame of the first tap at p.
@@ -93,6 +81,7 @@ fn start_at(p: f64, half: usize) -> usize
     (frame_index(p) as usize) + 1 - half
 }
 
+// Each asks for a sound loop, since the loop is found anew at every frame: a release can end it.
 // The position after p. One past 2^32, where no sample has a frame, stays, so that the sum is a position.
 fn after(lp: Option<LoopRt>, p: f64, step: f64) -> f64
     requires { LoopOk lp × Position p × Step step }
@@ -118,67 +107,52 @@ fn nexts(lp: Option<LoopRt>, p: f64, step: f64) -> Next
 // Whether all four are inner ones.
 fn inside(x: Next, half: usize, len: usize) -> bool
     requires { Positions x × (half ≤ 40) }
-    ensures { (result ≡ true) → AllInner x half len }
+    ensures { result ≡ all_inner x half len }
 {
-    if inner(x.p0, half, len) {
-        if inner(x.p1, half, len) {
-            if inner(x.p2, half, len) {
-                return inner(x.p3, half, len);
-            }
-        }
-    }
-    false
-}
-
-// The frame (l, r) of the position p is kept in place k.
-fn keep(
-    qs: &mut [f64; 64],
-    ls: &mut [f32; 64],
-    rs: &mut [f32; 64],
-    k: usize,
-    p: f64,
-    l: f32,
-    r: f32,
-)
-    requires { k < 64 }
-    ensures { (qs.new ≡ set qs.old k p) × (ls.new ≡ set ls.old k l) × (rs.new ≡ set rs.old k r) }
-{
-    qs[k] = p;
-    ls[k] = l;
-    rs[k] = r;
+    inner(x.p0, half, len)
+        && inner(x.p1, half, len)
+        && inner(x.p2, half, len)
+        && inner(x.p3, half, len)
 }
 
 // The frames (l, r) of four positions are kept, from place `at` on.
-fn keep_four(
-    qs: &mut [f64; 64],
-    ls: &mut [f32; 64],
-    rs: &mut [f32; 64],
-    at: usize,
-    x: Next,
-    l: Four,
-    r: Four,
-)
+fn keep_four(kept: &mut [Kept; 64], at: usize, x: Next, l: Four, r: Four)
     requires { at + 4 ≤ 64 }
-    ensures { (qs.new ≡ set (set (set (set qs.old at x.p0) (at + 1) x.p1) (at + 2) x.p2) (at + 3) x.p3) × (ls.new ≡ set (set (set (set ls.old at l.x0) (at + 1) l.x1) (at + 2) l.x2) (at + 3) l.x3) × (rs.new ≡ set (set (set (set rs.old at r.x0) (at + 1) r.x1) (at + 2) r.x2) (at + 3) r.x3) }
+    ensures { kept.new ≡ kept_from at x l r kept.old }
 {
-    keep(qs, ls, rs, at, x.p0, l.x0, r.x0);
-    keep(qs, ls, rs, at + 1, x.p1, l.x1, r.x1);
-    keep(qs, ls, rs, at + 2, x.p2, l.x2, r.x2);
-    keep(qs, ls, rs, at + 3, x.p3, l.x3, r.x3);
+    kept[at] = Kept {
+        at: x.p0,
+        heard: Pair { l: l.x0, r: r.x0 },
+    };
+    kept[at + 1] = Kept {
+        at: x.p1,
+        heard: Pair { l: l.x1, r: r.x1 },
+    };
+    kept[at + 2] = Kept {
+        at: x.p2,
+        heard: Pair { l: l.x2, r: r.x2 },
+    };
+    kept[at + 3] = Kept {
+        at: x.p3,
+        heard: Pair { l: l.x3, r: r.x3 },
+    };
 }
 
 // Whether four parts test as four others.
 fn same(f: Four, g: Four) -> bool
-    ensures { (result ≡ true) → Alike f g }
+    ensures { result ≡ are_alike f g }
 {
-    if f.x0 == g.x0 {
-        if f.x1 == g.x1 {
-            if f.x2 == g.x2 {
-                return f.x3 == g.x3;
-            }
-        }
+    f.x0 == g.x0 && f.x1 == g.x1 && f.x2 == g.x2 && f.x3 == g.x3
+}
+
+// Whether they test as the last four, if there are any.
+fn as_last(f: Four, last: Option<Four>) -> bool
+    ensures { result ≡ as_last f last }
+{
+    match last {
+        Some(g) => same(f, g),
+        None => false,
     }
-    false
 }
 
 // The frames of four positions are read and kept, from place `at` on. Where they lie as far behind their frames as the last
@@ -186,18 +160,14 @@ fn same(f: Four, g: Four) -> bool
 fn four(
     x: Next,
     cold: Cold,
-    a: &[f32],
-    b: &[f32],
-    table: &[f32],
+    lent: Lent<'_>,
     places: &mut Places,
-    qs: &mut [f64; 64],
-    ls: &mut [f32; 64],
-    rs: &mut [f32; 64],
+    kept: &mut [Kept; 64],
     at: usize,
-    last: Four,
+    last: Option<Four>,
 ) -> Four
-    requires { Positions x × AllInner x cold.span.half (length a.now) × Suited cold a.now b.now × (at + 4 ≤ 64) × (length table.now ≡ 8194) × Kept cold.span cold.stereo (record { a = a.now; b = b.now; table = table.now }) qs.old ls.old rs.old × Placed cold.span last places.old.entries places.old.parts }
-    ensures { Kept cold.span cold.stereo (record { a = a.entry.now; b = b.now; table = table.now }) qs.new ls.new rs.new × Placed cold.span result places.new.entries places.new.parts }
+    requires { Positions x × AllInner x cold.span.half (length (sound_of lent).a) × Suited cold (sound_of lent) × (at + 4 ≤ 64) × AllRead cold (sound_of lent) at kept.old × PlacedBy cold.span last places.old.entries places.old.parts }
+    ensures { AllRead cold (sound_of lent.entry) (at + 4) kept.new × PlacedBy cold.span (Some result) places.new.entries places.new.parts }
 {
     let span = cold.span;
     let h = span.half as usize;
@@ -213,79 +183,65 @@ fn four(
         x2: fraction(x.p2),
         x3: fraction(x.p3),
     };
-    let placed = same(f, last);
-    if cold.stereo {
-        let v = sinc_four(table, Both { l: a, r: b }, span, n, f, placed, places);
-        let l = v.l;
-        let r = v.r;
-        keep_four(qs, ls, rs, at, x, l, r);
-    } else {
-        let l = sinc_four(table, a, span, n, f, placed, places);
-        let r = Four {
-            x0: 0.0,
-            x1: 0.0,
-            x2: 0.0,
-            x3: 0.0,
-        };
-        keep_four(qs, ls, rs, at, x, l, r);
+    let placed = as_last(f, last);
+    match lent.b {
+        Some(b) => {
+            let v = sinc_four(
+                lent.table,
+                Pair { l: lent.a, r: b },
+                span,
+                n,
+                f,
+                placed,
+                places,
+            );
+            let l = v.l;
+            let r = v.r;
+            keep_four(kept, at, x, l, r);
+        }
+        None => {
+            let l = sinc_four(lent.table, lent.a, span, n, f, placed, places);
+            let r = Four {
+                x0: 0.0,
+                x1: 0.0,
+                x2: 0.0,
+                x3: 0.0,
+            };
+            keep_four(kept, at, x, l, r);
+        }
     }
     f
 }
 
-// The next frames of a player are kept: 64, or as many fours as m frames have, as far as they are inner ones. A release on the
-// way, which can end the loop, leaves the rest unread.
-pub fn ahead(
-    hot: Hot,
-    cold: Cold,
-    a: &[f32],
-    b: &[f32],
-    table: &[f32],
-    m: usize,
-    qs: &mut [f64; 64],
-    ls: &mut [f32; 64],
-    rs: &mut [f32; 64],
-)
-    requires { ColdOk cold × Position hot.pos × (length table.now ≡ 8194) × Suited cold a.now b.now × Kept cold.span cold.stereo (record { a = a.now; b = b.now; table = table.now }) qs.old ls.old rs.old }
-    ensures { Kept cold.span cold.stereo (record { a = a.entry.now; b = b.now; table = table.now }) qs.new ls.new rs.new }
+// How many fours are read ahead of m frames.
+fn fours_in(m: usize) -> usize
+    ensures { result ≤ 16 }
 {
-    if hot.data_ended {
-        return;
-    }
-    if hot.data_delay > 0 {
-        return;
-    }
-    let mut places = Places::new();
-    let env = hot.env;
-    let mode = cold.loop_mode;
-    let own = cold.lp;
-    let lp = looping(env, mode, own);
-    let mut p = place(lp, hot.pos);
-    let h = cold.span.half as usize;
-    let mut at = 0usize;
-    let mut last = NO_PARTS;
-    while at < 64 {
-        if m < at + 4 {
-            return;
-        }
-        let x = nexts(lp, p, cold.step);
-        if inside(x, h, a.len()) {
-            last = four(x, cold, a, b, table, &mut places, qs, ls, rs, at, last);
-        } else {
-            return;
-        }
-        p = after(lp, x.p3, cold.step);
-        at += 4;
-    }
+    m.min(64) / 4
 }
 
-// Whether place i keeps the kernel's frame at p.
-pub fn known(kind: Interp, qs: &[f64; 64], i: usize, p: f64) -> bool
-    requires { i < 64 }
-    ensures { (result ≡ true) → (kind ≡ Sinc) × T (eq (get_or qs.now i nan) p) }
+// The next frames of a player are kept, and how many: 64, or as many fours as m frames have, as far as they are inner ones. A release on
+// the way, which can end the loop, leaves the rest unread.
+pub fn ahead(hot: Hot, cold: Cold, lent: Lent<'_>, m: usize, kept: &mut [Kept; 64]) -> usize
+    requires { ColdOk cold × Position hot.pos × Suited cold (sound_of lent) × (length kept.old ≡ 64) }
+    ensures { (result ≤ 64) × AllRead cold (sound_of lent.entry) result kept.new }
 {
-    match kind {
-        Interp::Linear => false,
-        Interp::Hermite => false,
-        Interp::Sinc => qs[i] == p,
+    if hot.data_ended || hot.data_delay > 0 {
+        return 0;
     }
+    let mut places = Places::new();
+    let lp = looping(hot.env, cold.loop_mode, cold.lp);
+    let mut p = place(lp, hot.pos);
+    let h = cold.span.half as usize;
+    let mut last: Option<Four> = None;
+    let fours = fours_in(m);
+    for k in 0..fours {
+        let x = nexts(lp, p, cold.step);
+        if !inside(x, h, lent.a.len()) {
+            return 4 * k;
+        }
+        last = Some(four(x, cold, lent, &mut places, kept, 4 * k, last));
+        p = after(lp, x.p3, cold.step);
+    }
+    4 * fours
 }

@@ -1,18 +1,17 @@
 // Frames that are read as they are stored, under an envelope that rests and through no filter: a hit at its own pitch from its attack to its
 // release, the usual player. Many of them are added to both outputs at once, and the position moves once for all.
-ghost use Rattle.std.specs.Prelude.{◌≡◌, true, false, cond, List, ℕ, ◌≤◌, ◌<◌, ◌+◌, ◌-◌, Float, length, get_or};
+ghost use Rattle.std.specs.Prelude.{◌≡◌, ℕ, pos, ◌≤◌, ◌<◌, ◌+◌, length, IfSome, option_map};
+ghost use Rattle.std.specs.Int.Signed.{lt_z};
 ghost use Rattle.exact.specs.Single.{f0};
-ghost use Rattle.filter.specs.declared.FilterShape.{FilterShape};
 ghost use Rattle.interp.specs.Position.{Position, double};
 ghost use Rattle.player.specs.Bounds.{ColdOk};
-ghost use Rattle.segments.specs.Source.{Lent, at_pos};
-ghost use Rattle.segments.specs.Segment.{Run};
-ghost use Rattle.segments.specs.Plain.{is_resting, is_plain, is_silent, plain_end, FadeSmall, added_run, plain_share, run_from};
+ghost use Rattle.segments.specs.Source.{sound_of};
+ghost use Rattle.segments.specs.Plain.{is_resting, is_steady, is_plain, is_silent, plain_end, FadeSmall, Reaches, second_at, added_run, plain_share, Goes};
 
 use super::segment::{add_at, share_of};
-use super::source::looping;
+use super::source::{Lent, looping};
 use envelope::{EgState, Env};
-use filter::Pair;
+use exact::pair::Pair;
 use interp::position::frame_index;
 use player::{Cold, Hot, LoopRt};
 
@@ -24,60 +23,45 @@ pub struct Rested {
 }
 
 // In its sustain, at or below its level, an envelope stays as it is.
+#[tactic(auto, unfolding(crate::specs::Plain::is_resting))]
 fn rests(e: Env) -> bool
     ensures { result ≡ is_resting e }
 {
-    let s = e.state;
-    match s {
-        EgState::Delay => false,
-        EgState::Attack => false,
-        EgState::Hold => false,
-        EgState::Decay => false,
-        EgState::Sustain => {
-            if e.free_running {
-                return false;
-            }
-            !(e.value > e.sustain)
-        }
-        EgState::Release => false,
-        EgState::Fadeout => false,
-        EgState::Done => false,
-    }
+    matches!(e.state, EgState::Sustain) && !e.free_running && !(e.value > e.sustain)
+}
+
+fn delays(h: Hot) -> bool
+    ensures { result ≡ lt_z (pos 0) h.data_delay }
+{
+    h.data_delay > 0
+}
+
+// No delay is left, no filter is there and the envelope rests.
+#[tactic(auto, unfolding(crate::specs::Plain::is_steady))]
+fn is_steady(h: Hot, c: Cold) -> bool
+    ensures { result ≡ is_steady c h }
+{
+    c.n_filters == 0 && !delays(h) && rests(h.env)
 }
 
 // Whether the frames to come are stored ones, as long as the position is whole and lies before the end of the run.
+#[tactic(auto, unfolding(crate::specs::Plain::is_plain))]
 fn is_plain(h: Hot, c: Cold) -> bool
     ensures { result ≡ is_plain c h }
 {
-    if c.step != 1.0 {
-        return false;
-    }
-    if c.silent {
-        return false;
-    }
-    if c.n_filters != 0 {
-        return false;
-    }
-    if h.data_ended {
-        return false;
-    }
-    if h.data_delay > 0 {
-        return false;
-    }
-    let env = h.env;
-    rests(env)
+    c.step == 1.0 && !c.silent && !h.data_ended && is_steady(h, c)
 }
 
-// The frame that a position is; 0 where it is none, and where it is the first.
-fn whole_frame(pos: f64) -> usize
+// The frame that a position is, if it is one; the first is left out.
+fn whole_frame(pos: f64) -> Option<usize>
     requires { Position pos }
-    ensures { (result ≤ 8589934592) × (0 < result → pos ≡ double result) }
+    ensures { IfSome result (λ m. (0 < m) × (m ≤ 8589934592) × (pos ≡ double m)) }
 {
     let f = frame_index(pos);
-    if pos == (f as f64) {
-        return f as usize;
+    if f > 0 && pos == (f as f64) {
+        return Some(f as usize);
     }
-    0
+    None
 }
 
 // Where plain frames end: where the sample does, or where the loop turns back or its fade begins.
@@ -88,107 +72,85 @@ fn plain_end(lp: Option<LoopRt>, last: u32) -> usize
         None => last as usize,
         Some(l) => {
             let end = (l.end as usize) + 1;
-            if l.xf > 0 {
-                let fade = l.xf_out_start as usize;
-                if fade < end {
-                    return fade;
-                }
+            match l.fade {
+                None => end,
+                Some(f) => end.min(f.start as usize),
             }
-            end
         }
     }
 }
 
-fn lesser(a: usize, b: usize) -> usize
-    ensures { (result ≤ a) × (result ≤ b) }
+// How many frames every channel has.
+fn channel_len(lent: Lent<'_>) -> usize
+    ensures { Reaches (sound_of lent.entry) result }
 {
-    if a < b { a } else { b }
-}
-
-// How many frames there are of the second channel, where it is read.
-fn second_len(stereo: bool, a: usize, b: usize) -> usize
-    ensures { stereo ≡ true → result ≡ b }
-{
-    if stereo { b } else { a }
-}
-
-// How many of n frames from frame p on lie before the end of the run and in both channels.
-fn plain_count(end: usize, a: usize, b: usize, p: usize, n: usize) -> usize
-    ensures { (result ≤ n) × (0 < result → (p + result ≤ end) × (p + result ≤ a) × (p + result ≤ b)) }
-{
-    let stop = lesser(end, lesser(a, b));
-    if stop <= p {
-        return 0;
+    match lent.b {
+        Some(b) => lent.a.len().min(b.len()),
+        None => lent.a.len(),
     }
-    lesser(stop - p, n)
+}
+
+// How many of n frames from frame p on lie before the end of the run and in every channel.
+fn plain_count(end: usize, len: usize, p: usize, n: usize) -> usize
+    ensures { (result ≤ n) × (0 < result → (p + result ≤ end) × (p + result ≤ len)) }
+{
+    end.min(len).saturating_sub(p).min(n)
 }
 
 // Frame q of the second channel; a mono sample has none.
-fn second_at(stereo: bool, b: &[f32], q: usize) -> f32
-    requires { stereo ≡ true → q < length b.now }
-    ensures { result ≡ cond stereo (get_or b.now q f0) f0 }
+fn second_at(b: Option<&[f32]>, q: usize) -> f32
+    requires { IfSome (option_map (λ s. s.now) b) (λ xs. q < length xs) }
+    ensures { result ≡ second_at (option_map (λ s. s.now) b.entry) q }
 {
-    if stereo { b[q] } else { 0.0 }
-}
-
-// k stored frames from frame p on, each by its share, added to an output from frame j on.
-fn add_plain(
-    out: &mut [f32],
-    j: usize,
-    k: usize,
-    a: &[f32],
-    b: &[f32],
-    stereo: bool,
-    p: usize,
-    g: f32,
-    x: f32,
-    y: f32,
-)
-    requires { (j + k ≤ length out.old) × (p + k ≤ length a.now) × (stereo ≡ true → p + k ≤ length b.now) }
-    ensures { out.new ≡ added_run (plain_share g x y stereo a.now b.now p) j k out.old }
-{
-    let mut i = 0usize;
-    while i < k {
-        let l = a[p + i];
-        let r = second_at(stereo, b, p + i);
-        add_at(out, j + i, share_of(g, x, y, Pair { l, r }));
-        i += 1;
+    match b {
+        Some(b) => b[q],
+        None => 0.0,
     }
 }
 
+// k stored frames from frame p on, each by its share, added to an output from frame j on. It counts places, as the run of frames in its clause
+// does: of slices cut for it each call would have to put its output together again.
+fn add_plain(out: &mut [f32], j: usize, k: usize, lent: Lent<'_>, p: usize, g: f32, x: f32, y: f32)
+    requires { (j + k ≤ length out.old) × Reaches (sound_of lent) (p + k) }
+    ensures { out.new ≡ added_run (plain_share g x y (sound_of lent.entry) p) j k out.old }
+{
+    for i in 0..k {
+        let l = lent.a[p + i];
+        let r = second_at(lent.b, p + i);
+        add_at(out, j + i, share_of(g, x, y, Pair { l, r }));
+    }
+}
+
+// A loop of its own: of one with a closure each caller would have to show that it may be called, and what it adds.
 // The same value added to k frames of an output from frame j on.
 fn add_same(out: &mut [f32], j: usize, k: usize, v: f32)
     requires { j + k ≤ length out.old }
     ensures { out.new ≡ added_run (λ (i : ℕ). v) j k out.old }
 {
-    let mut i = 0usize;
-    while i < k {
+    for i in 0..k {
         add_at(out, j + i, v);
-        i += 1;
     }
 }
 
 // Whether the frames to come are silence under an envelope that rests: they add what the gain makes of 0.0.
+#[tactic(auto, unfolding(crate::specs::Plain::is_silent))]
 fn is_silent(h: Hot, c: Cold) -> bool
     ensures { result ≡ is_silent c h }
 {
-    if !c.silent {
-        return false;
-    }
-    if c.n_filters != 0 {
-        return false;
-    }
-    if h.data_delay > 0 {
-        return false;
-    }
-    let env = h.env;
-    rests(env)
+    c.silent && is_steady(h, c)
 }
 
 // All frames from j on, where they are silence.
-fn play_silent(h: Hot, c: Cold, out_l: &mut [f32], out_r: &mut [f32], j: usize) -> Rested
+fn play_silent(
+    h: Hot,
+    c: Cold,
+    lent: Lent<'_>,
+    out_l: &mut [f32],
+    out_r: &mut [f32],
+    j: usize,
+) -> Rested
     requires { Position h.pos × (j ≤ length out_l.old) × (length out_r.old ≡ length out_l.old) }
-    ensures { (j ≤ result.next) × (result.next ≤ length out_l.old) × Position result.pos × ((slots : List FilterShape) (s : Lent) (states : List Float) → ◌≡◌ {A = Run} (record { hot = at_pos result.pos h; states = states; left = out_l.new; right = out_r.new; done = false }) (run_from c slots s j (result.next - j) (record { hot = h; states = states; left = out_l.old; right = out_r.old; done = false }))) }
+    ensures { Goes c h (sound_of lent.entry) j out_l.old out_r.old result out_l.new out_r.new }
 {
     let n = out_l.len();
     if !is_silent(h, c) {
@@ -197,11 +159,11 @@ fn play_silent(h: Hot, c: Cold, out_l: &mut [f32], out_r: &mut [f32], j: usize) 
             next: j,
         };
     }
-    let env = h.env;
-    let gain = c.gain * env.value;
+    let gain = c.gain * h.env.value;
     let none = Pair { l: 0.0, r: 0.0 };
-    add_same(out_l, j, n - j, share_of(gain, c.ll, c.rl, none));
-    add_same(out_r, j, n - j, share_of(gain, c.lr, c.rr, none));
+    let m = c.matrix;
+    add_same(out_l, j, n - j, share_of(gain, m.ll, m.rl, none));
+    add_same(out_r, j, n - j, share_of(gain, m.lr, m.rr, none));
     Rested {
         pos: h.pos,
         next: n,
@@ -212,66 +174,54 @@ fn play_silent(h: Hot, c: Cold, out_l: &mut [f32], out_r: &mut [f32], j: usize) 
 fn play_stored(
     h: Hot,
     c: Cold,
-    a: &[f32],
-    b: &[f32],
+    lent: Lent<'_>,
     out_l: &mut [f32],
     out_r: &mut [f32],
     j: usize,
 ) -> Rested
     requires { ColdOk c × Position h.pos × (j ≤ length out_l.old) × (length out_r.old ≡ length out_l.old) }
-    ensures { (j ≤ result.next) × (result.next ≤ length out_l.old) × Position result.pos × ((slots : List FilterShape) (states table : List Float) → ◌≡◌ {A = Run} (record { hot = at_pos result.pos h; states = states; left = out_l.new; right = out_r.new; done = false }) (run_from c slots (record { a = a.entry.now; b = b.now; table = table }) j (result.next - j) (record { hot = h; states = states; left = out_l.old; right = out_r.old; done = false }))) }
+    ensures { Goes c h (sound_of lent.entry) j out_l.old out_r.old result out_l.new out_r.new }
 {
-    let n = out_l.len();
+    let none = Rested {
+        pos: h.pos,
+        next: j,
+    };
     if !is_plain(h, c) {
-        return Rested {
-            pos: h.pos,
-            next: j,
-        };
+        return none;
     }
-    let p = whole_frame(h.pos);
-    if p == 0 {
-        return Rested {
-            pos: h.pos,
-            next: j,
-        };
-    }
-    let env = h.env;
-    let mode = c.loop_mode;
-    let own = c.lp;
-    let lp = looping(env, mode, own);
-    let end = plain_end(lp, c.last);
-    let second = second_len(c.stereo, a.len(), b.len());
-    let k = plain_count(end, a.len(), second, p, n - j);
+    let Some(p) = whole_frame(h.pos) else {
+        return none;
+    };
+    let end = plain_end(looping(h.env, c.loop_mode, c.lp), c.last);
+    let k = plain_count(end, channel_len(lent), p, out_l.len() - j);
     if k == 0 {
-        return Rested {
-            pos: h.pos,
-            next: j,
-        };
+        return none;
     }
-    let gain = c.gain * env.value;
-    add_plain(out_l, j, k, a, b, c.stereo, p, gain, c.ll, c.rl);
-    add_plain(out_r, j, k, a, b, c.stereo, p, gain, c.lr, c.rr);
+    let gain = c.gain * h.env.value;
+    let m = c.matrix;
+    add_plain(out_l, j, k, lent, p, gain, m.ll, m.rl);
+    add_plain(out_r, j, k, lent, p, gain, m.lr, m.rr);
     Rested {
         pos: (p + k) as f64,
         next: j + k,
     }
 }
 
+// Two cases of one promise. Both outputs stay two slices: a struct of two `&mut` that lends a part of each got no proof.
 // As many of the frames from j on as are stored ones, or silence, under an envelope that rests.
 pub fn play_plain(
     h: Hot,
     c: Cold,
-    a: &[f32],
-    b: &[f32],
+    lent: Lent<'_>,
     out_l: &mut [f32],
     out_r: &mut [f32],
     j: usize,
 ) -> Rested
     requires { ColdOk c × Position h.pos × (j ≤ length out_l.old) × (length out_r.old ≡ length out_l.old) }
-    ensures { (j ≤ result.next) × (result.next ≤ length out_l.old) × Position result.pos × ((slots : List FilterShape) (states table : List Float) → ◌≡◌ {A = Run} (record { hot = at_pos result.pos h; states = states; left = out_l.new; right = out_r.new; done = false }) (run_from c slots (record { a = a.entry.now; b = b.now; table = table }) j (result.next - j) (record { hot = h; states = states; left = out_l.old; right = out_r.old; done = false }))) }
+    ensures { Goes c h (sound_of lent.entry) j out_l.old out_r.old result out_l.new out_r.new }
 {
     if c.silent {
-        return play_silent(h, c, out_l, out_r, j);
+        return play_silent(h, c, lent, out_l, out_r, j);
     }
-    play_stored(h, c, a, b, out_l, out_r, j)
+    play_stored(h, c, lent, out_l, out_r, j)
 }

@@ -1,39 +1,45 @@
 // One frame of a player's sample, before its filters.
-ghost use Rattle.std.specs.Prelude.{◌≡◌, ◌≤◌, ◌<◌, T, length};
-ghost use Rattle.std.specs.Float.Ieee.{le};
-ghost use Rattle.interp.specs.Position.{Position, furthest};
+ghost use Rattle.std.specs.Prelude.{◌≡◌, ◌≤◌, IfSome};
+ghost use Rattle.interp.specs.Position.{Position};
 ghost use Rattle.player.specs.Bounds.{LoopOk, Wrapped, ColdOk};
-ghost use Rattle.segments.specs.Ahead.{Kept};
-ghost use Rattle.segments.specs.Source.{current_loop, place_in, at_end, is_unity, stored_at, frame_of, s_curve, fade_of, in_fade, faded, crossfaded, read_frame};
+ghost use Rattle.segments.specs.Ahead.{Reads};
+ghost use Rattle.segments.specs.Source.{sound_of, current_loop, place_in, at_end, is_unity, stored_at, frame_of, frame_in, s_curve, fade_of, in_fade, behind, faded, crossfaded, read_frame};
 
-use super::ahead::known;
+use super::ahead::Kept;
 use elementary::trig::cos;
 use envelope::Env;
 use exact::format::narrow;
 use exact::order::clamp_f32;
-use interp::channels::Pair;
+use exact::pair::Pair;
+use interp::Kernel;
 use interp::points::{PCM_PAD, frame_at};
 use interp::position::{floor, frame_index, is_whole, wrap};
-use interp::sinc::SincSpan;
-use interp::{Interp, read_pair};
-use player::{Cold, Hot, LoopRt};
+use player::{Cold, Fade, Hot, LoopRt};
 use program::region::LoopMode;
+
+// What a player is lent: its sample's channels, of which a mono sample has the first alone, and the sinc table.
+#[derive(Clone, Copy)]
+pub struct Lent<'a> {
+    pub a: &'a [f32],
+    pub b: Option<&'a [f32]>,
+    pub table: &'a [f32; 8194],
+}
 
 // A frame of the sample, and what reading it leaves.
 #[derive(Drop)]
 pub struct Source {
     pub hot: Hot,
-    pub l: f32,
-    pub r: f32,
+    pub heard: Pair<f32>,
 }
+
+const SILENT: Pair<f32> = Pair { l: 0.0, r: 0.0 };
 
 // The loop that the player goes round in: one that sustains ends with the release.
 pub fn looping(env: Env, mode: LoopMode, lp: Option<LoopRt>) -> Option<LoopRt>
     ensures { result ≡ current_loop env.state mode lp }
 {
     match mode {
-        LoopMode::NoLoop => None,
-        LoopMode::OneShot => None,
+        LoopMode::NoLoop | LoopMode::OneShot => None,
         LoopMode::Continuous => lp,
         LoopMode::Sustain => {
             if env.released() {
@@ -45,6 +51,7 @@ pub fn looping(env: Env, mode: LoopMode, lp: Option<LoopRt>) -> Option<LoopRt>
 }
 
 // The position in the loop.
+#[inline(always)]
 pub fn place(lp: Option<LoopRt>, pos: f64) -> f64
     requires { LoopOk lp × Position pos }
     ensures { (result ≡ place_in lp pos) × Position result × Wrapped lp result }
@@ -56,91 +63,76 @@ pub fn place(lp: Option<LoopRt>, pos: f64) -> f64
 }
 
 // Whether the sample has ended at the position p; in a loop it never does.
+#[tactic(auto, unfolding(crate::specs::Source::at_end))]
 fn at_end(lp: Option<LoopRt>, last: u32, p: f64) -> bool
     ensures { result ≡ at_end lp last p }
 {
-    match lp {
-        None => p >= (last as f64),
-        Some(_) => false,
-    }
+    lp.is_none() && p >= (last as f64)
 }
 
 // Whether the stored frame is read as it is.
+#[tactic(auto, unfolding(crate::specs::Source::is_unity))]
 fn unity(step: f64, p: f64) -> bool
     requires { Position p }
     ensures { result ≡ is_unity step p }
 {
-    if step == 1.0 {
-        return is_whole(p);
-    }
-    false
+    step == 1.0 && is_whole(p)
 }
 
 // Both channels of the stored frame at the position p.
-fn stored_frame(stereo: bool, a: &[f32], b: &[f32], p: f64) -> Pair
+fn stored_frame(lent: Lent<'_>, p: f64) -> Pair<f32>
     requires { Position p }
-    ensures { result ≡ stored_at stereo a.now b.now p }
+    ensures { result ≡ stored_at (sound_of lent.entry) p }
 {
     let n = (frame_index(p) as usize) + PCM_PAD;
-    let l = frame_at(a, n);
-    if stereo {
-        let r = frame_at(b, n);
-        return Pair { l, r };
+    match lent.b {
+        Some(b) => Pair {
+            l: frame_at(lent.a, n),
+            r: frame_at(b, n),
+        },
+        None => Pair {
+            l: frame_at(lent.a, n),
+            r: 0.0,
+        },
     }
-    Pair { l, r: 0.0 }
 }
 
-// Both channels at the position p: as stored, as read ahead and kept in place i, or by the kernel.
-fn frame(
-    kind: Interp,
-    span: SincSpan,
-    stereo: bool,
-    a: &[f32],
-    b: &[f32],
-    table: &[f32],
-    stored: bool,
-    p: f64,
-    qs: &[f64; 64],
-    ls: &[f32; 64],
-    rs: &[f32; 64],
-    i: usize,
-) -> Pair
-    requires { Position p × (length table.now ≡ 8194) × (span.half ≤ 40) × (i < 64) × Kept span stereo (record { a = a.now; b = b.now; table = table.now }) qs.now ls.now rs.now }
-    ensures { result ≡ frame_of kind span stereo (record { a = a.entry.now; b = b.now; table = table.now }) stored p }
+// Both channels at the position p: as stored, as read ahead and kept, or by the kernel.
+fn frame(cold: Cold, lent: Lent<'_>, stored: bool, p: f64, kept: Option<Kept>) -> Pair<f32>
+    requires { Position p × (cold.span.half ≤ 40) × IfSome kept (Reads cold (sound_of lent)) }
+    ensures { result ≡ frame_in cold (sound_of lent.entry) stored p }
 {
     if stored {
-        return stored_frame(stereo, a, b, p);
+        return stored_frame(lent, p);
     }
-    if known(kind, qs, i, p) {
-        return Pair { l: ls[i], r: rs[i] };
+    if let Some(k) = kept {
+        if k.at == p {
+            return k.heard;
+        }
     }
-    read_pair(kind, a, b, stereo, p, table, span)
+    let kernel = Kernel {
+        kind: cold.interp,
+        table: lent.table,
+        span: cold.span,
+    };
+    kernel.read_pair(lent.a, lent.b, p)
 }
 
-// The same for the frame that a fade brings in, a channel at a time: fades are short, and what reads every frame keeps one
-// caller, so that it is compiled into the loop over frames.
-fn incoming(
-    kind: Interp,
-    span: SincSpan,
-    stereo: bool,
-    a: &[f32],
-    b: &[f32],
-    table: &[f32],
-    stored: bool,
-    p: f64,
-) -> Pair
-    requires { Position p × (length table.now ≡ 8194) × (span.half ≤ 40) }
-    ensures { result ≡ frame_of kind span stereo (record { a = a.entry.now; b = b.now; table = table.now }) stored p }
+// The same for the frame that a fade brings in: fades are short, and what reads every frame keeps one caller, so that it is compiled
+// into the loop over frames. (Reading ahead with two callers took 32 Hermite players 117 microseconds a block beside 98: docs/SPEED.md.)
+fn incoming(cold: Cold, lent: Lent<'_>, stored: bool, p: f64) -> Pair<f32>
+    requires { Position p × (cold.span.half ≤ 40) }
+    ensures { result ≡ frame_in cold (sound_of lent.entry) stored p }
 {
     if stored {
-        return stored_frame(stereo, a, b, p);
+        return stored_frame(lent, p);
     }
-    let l = interp::read(kind, a, p, table, span);
-    if stereo {
-        let r = interp::read(kind, b, p, table, span);
-        return Pair { l, r };
-    }
-    Pair { l, r: 0.0 }
+    let kernel = Kernel {
+        kind: cold.interp,
+        table: lent.table,
+        span: cold.span,
+    };
+    kernel.read_pair(lent.a, lent.b, p)
 }
 
 // From 0 to 1 along half a turn of the cosine.
@@ -150,151 +142,110 @@ fn s_curve(x: f32) -> f32
     0.5 * (1.0 - cos(3.1415927 * clamp_f32(x, 0.0, 1.0)))
 }
 
-// Whether the position p lies in the loop's fade.
-fn in_fade(l: LoopRt, p: f64) -> bool
+// Whether the position p lies in the fade of a loop that begins at `start`.
+fn in_fade(start: u32, f: Fade, p: f64) -> bool
     requires { Position p }
-    ensures { result ≡ in_fade l p }
+    ensures { result ≡ in_fade start f p }
 {
-    if l.xf > 0 {
-        // most positions are not, and need no floor
-        if p >= (l.xf_out_start as f64) {
-            let idx = floor(p);
-            if idx >= (l.start as f64) {
-                return idx >= (l.xf_out_start as f64);
-            }
-        }
+    // most positions are not, and need no floor
+    if p >= (f.start as f64) {
+        let idx = floor(p);
+        return idx >= (start as f64) && idx >= (f.start as f64);
     }
     false
 }
 
 // How far the position p is into the fade.
-fn fade_of(l: LoopRt, p: f64) -> f32
-    ensures { result ≡ fade_of l p }
+fn fade_of(f: Fade, p: f64) -> f32
+    ensures { result ≡ fade_of f p }
 {
-    narrow((p - (l.xf_out_start as f64)) / (l.xf as f64))
+    narrow((p - (f.start as f64)) / (f.frames as f64))
 }
 
+// The position that comes in at p, a loop's size before, if that is one.
+fn behind(l: LoopRt, p: f64) -> Option<f64>
+    requires { LoopOk (Some l) × Position p }
+    ensures { (result ≡ behind l p) × IfSome result Position }
+{
+    let q = p - l.size;
+    if q >= 0.0 { Some(q) } else { None }
+}
+
+// `stored` and the position go hand in hand to both readers: of an enum of ways each would take the same two apart again.
 // The frame v goes out, and the one at q, if there is one, comes in.
-fn fade(
-    cold: Cold,
-    a: &[f32],
-    b: &[f32],
-    table: &[f32],
-    stored: bool,
-    t: f32,
-    q: f64,
-    v: Pair,
-) -> Pair
-    requires { T (le q furthest) × (length table.now ≡ 8194) × (cold.span.half ≤ 40) }
-    ensures { result ≡ faded cold (record { a = a.entry.now; b = b.now; table = table.now }) stored t q v }
+fn fade(cold: Cold, lent: Lent<'_>, stored: bool, t: f32, q: Option<f64>, v: Pair<f32>) -> Pair<f32>
+    requires { IfSome q Position × (cold.span.half ≤ 40) }
+    ensures { result ≡ faded cold (sound_of lent.entry) stored t q v }
 {
     let g_out = s_curve(1.0 - t);
     let l = v.l * g_out;
     let r = v.r * g_out;
-    if q >= 0.0 {
-        let kind = cold.interp;
-        let span = cold.span;
-        let w = incoming(kind, span, cold.stereo, a, b, table, stored, q);
-        let g_in = s_curve(t);
-        return Pair {
-            l: l + g_in * w.l,
-            r: r + g_in * w.r,
-        };
+    match q {
+        None => Pair { l, r },
+        Some(x) => {
+            let w = incoming(cold, lent, stored, x);
+            let g_in = s_curve(t);
+            Pair {
+                l: l + g_in * w.l,
+                r: r + g_in * w.r,
+            }
+        }
     }
-    Pair { l, r }
 }
 
 // The frame v, read at the position p, with the loop's fade.
 fn crossfade(
     cold: Cold,
-    a: &[f32],
-    b: &[f32],
-    table: &[f32],
+    lent: Lent<'_>,
     lp: Option<LoopRt>,
     stored: bool,
     p: f64,
-    v: Pair,
-) -> Pair
-    requires { LoopOk lp × Position p × (length table.now ≡ 8194) × (cold.span.half ≤ 40) }
-    ensures { result ≡ crossfaded cold (record { a = a.entry.now; b = b.now; table = table.now }) lp stored p v }
+    v: Pair<f32>,
+) -> Pair<f32>
+    requires { LoopOk lp × Position p × (cold.span.half ≤ 40) }
+    ensures { result ≡ crossfaded cold (sound_of lent.entry) lp stored p v }
 {
     match lp {
-        None => Pair { l: v.l, r: v.r },
-        Some(l) => {
-            if in_fade(l, p) {
-                return fade(cold, a, b, table, stored, fade_of(l, p), p - l.size, v);
+        None => v,
+        Some(l) => match l.fade {
+            None => v,
+            Some(f) => {
+                if in_fade(l.start, f, p) {
+                    return fade(cold, lent, stored, fade_of(f, p), behind(l, p), v);
+                }
+                v
             }
-            Pair { l: v.l, r: v.r }
-        }
+        },
     }
 }
 
-// One frame of the sample, and the position after it. It may be kept in place i.
-pub fn read(
-    hot: Hot,
-    cold: Cold,
-    a: &[f32],
-    b: &[f32],
-    table: &[f32],
-    qs: &[f64; 64],
-    ls: &[f32; 64],
-    rs: &[f32; 64],
-    i: usize,
-) -> Source
-    requires { ColdOk cold × Position hot.pos × (length table.now ≡ 8194) × (i < 64) × Kept cold.span cold.stereo (record { a = a.now; b = b.now; table = table.now }) qs.now ls.now rs.now }
-    ensures { (result ≡ read_frame cold (record { a = a.entry.now; b = b.now; table = table.now }) hot) × Position result.hot.pos }
+// One frame of the sample, and the position after it. It may be kept.
+pub fn read(hot: Hot, cold: Cold, lent: Lent<'_>, kept: Option<Kept>) -> Source
+    requires { ColdOk cold × Position hot.pos × IfSome kept (Reads cold (sound_of lent)) }
+    ensures { (result ≡ read_frame cold (sound_of lent.entry) hot) × Position result.hot.pos }
 {
-    if cold.silent {
-        return Source {
-            hot,
-            l: 0.0,
-            r: 0.0,
-        };
+    if cold.silent || hot.data_ended {
+        return Source { hot, heard: SILENT };
     }
-    if hot.data_ended {
-        return Source {
-            hot,
-            l: 0.0,
-            r: 0.0,
-        };
-    }
-    let env = hot.env;
-    let mode = cold.loop_mode;
-    let own = cold.lp;
-    let lp = looping(env, mode, own);
+    let lp = looping(hot.env, cold.loop_mode, cold.lp);
     let p = place(lp, hot.pos);
-    let mut h = hot;
-    h.pos = p;
     if at_end(lp, cold.last, p) {
-        h.data_ended = true;
+        let ended = Hot {
+            pos: p,
+            data_ended: true,
+            ..hot
+        };
         return Source {
-            hot: h,
-            l: 0.0,
-            r: 0.0,
+            hot: ended,
+            heard: SILENT,
         };
     }
-    let kind = cold.interp;
-    let span = cold.span;
     let stored = unity(cold.step, p);
-    let v = frame(
-        kind,
-        span,
-        cold.stereo,
-        a,
-        b,
-        table,
-        stored,
-        p,
-        qs,
-        ls,
-        rs,
-        i,
-    );
-    let w = crossfade(cold, a, b, table, lp, stored, p, v);
-    h.pos = p + cold.step;
+    let v = frame(cold, lent, stored, p, kept);
+    let heard = crossfade(cold, lent, lp, stored, p, v);
+    let pos = p + cold.step;
     Source {
-        hot: h,
-        l: w.l,
-        r: w.r,
+        hot: Hot { pos, ..hot },
+        heard,
     }
 }

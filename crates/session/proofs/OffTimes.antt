@@ -6,8 +6,9 @@ use lib.Seq.{take-append-le}
 use Rattle.session.specs.Lists.{packed, change_first}
 use Rattle.session.specs.Records.{waits, collected}
 use Rattle.session.specs.Rules.{collect_first}
-use Rattle.session.specs.Offs.{off_of, off_times, no_off, offs_of, add_off, first_at}
+use Rattle.session.specs.Offs.{off_of, off_for, off_times, no_off, offs_of, add_off, first_at}
 use Rattle.std.specs.List.{position_or_len}
+use Rattle.std.proofs.lemmas.List.Quantifiers.{position-Some}
 use Rattle.session.specs.declared.Off.{Off}
 use Rattle.session.specs.declared.Offs.{Offs}
 use Rattle.session.specs.declared.PlayerRecord.{PlayerRecord}
@@ -40,6 +41,22 @@ added os o = by-case (ltb (length os) 32) refl where
       let same : take 32 (os ++ (o ∷ [])) ≡ take 32 os = take-append-le 32 os (o ∷ []) h in
       ap (λ t. cond t (record { offs = set (packed (take 32 os) (replicate 32 no_off)) (length (take 32 os)) o; count = length (take 32 os) + 1 }) (offs_of os)) (le-ltb (length (take 32 os)) 32 (omega arith))
       ∙ ap (λ l. record { offs = packed l (replicate 32 no_off); count = length l }) (sym same)
+
+-- what a record's own off time tells of it
+module _ (v : ℕ) (r : PlayerRecord) (o : Option Off) (told : o ≡ off_for v r) where
+  pub off-some : (w : Off) → o ≡ Some w → (waits v r ≡ true) × (w ≡ off_of r)
+  unfolding off_for
+  off-some w e = by-case (waits v r) refl (sym e ∙ told) where
+    by-case : (t : Bool) → waits v r ≡ t → Some w ≡ cond t (Some (off_of r)) None → (waits v r ≡ true) × (w ≡ off_of r)
+    by-case true h q = (h, cc)
+    by-case false h q = cc
+
+  pub off-none : o ≡ None → waits v r ≡ false
+  unfolding off_for
+  off-none e = by-case (waits v r) refl (sym e ∙ told) where
+    by-case : (t : Bool) → waits v r ≡ t → None ≡ cond t (Some (off_of r)) None → waits v r ≡ false
+    by-case true h q = cc
+    by-case false h q = h
 
 -- what is handed out after the first i of the list: b is the answer of the test of the next record
 module _ (v : ℕ) (xs : List PlayerRecord) (i : ℕ) (q : Offs) (d : PlayerRecord) (so_far : q ≡ offs_of (off_times v (take i xs))) (inside : i < length xs)
@@ -165,7 +182,10 @@ module _ (v : ℕ) (rs : List PlayerRecord) (w : Option ℕ) (told : w ≡ posit
         let there = some-there (waits v) rs k (sym told ∙ e) in
         ap (set rs k) f ∙ ap (λ m. set rs m (collected (get_or rs m d))) there.1 ∙ sym (first_some (waits v) collected rs d there.0)
 
-    pub one-taken : (o : Off) → o ≡ off_of (get_or rs k d) → Some o ≡ slice_get (off_times v rs) 0
+    pub one-taken : (o : Option Off) → o ≡ off_for v (get_or rs k d) → o ≡ slice_get (off_times v rs) 0
+    unfolding off_for
     one-taken o f =
         let there = some-there (waits v) rs k (sym told ∙ e) in
-        ap Some (f ∙ ap (λ m. off_of (get_or rs m d)) there.1) ∙ sym (ap (λ l. slice_get (map off_of l) 0) (keep-first (waits v) rs d there.0))
+        let w : waits v (get_or rs k d) ≡ true = (position-Some (waits v) rs k d (sym told ∙ e)).1 in
+        f ∙ ap (λ t. cond t (Some (off_of (get_or rs k d))) None) w
+        ∙ ap (λ m. Some (off_of (get_or rs m d))) there.1 ∙ sym (ap (λ l. slice_get (map off_of l) 0) (keep-first (waits v) rs d there.0))

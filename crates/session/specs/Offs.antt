@@ -1,5 +1,5 @@
 -- A voice's own off times, as the session hands them out.
-use Rattle.std.specs.Prelude.{ℕ, zero, suc, ◌+◌, Bool, List, [], ◌∷◌, map, length, take, replicate, nat_lt, slice_set, unwrap_or, slice_get, cond, filter}
+use Rattle.std.specs.Prelude.{ℕ, zero, suc, ◌+◌, Bool, List, [], ◌∷◌, map, length, take, replicate, nat_lt, slice_set, unwrap_or, slice_get, cond, filter, None, Option, Some}
 use Rattle.session.specs.declared.Off.{Off}
 use Rattle.session.specs.declared.Offs.{Offs}
 use Rattle.session.specs.declared.Collected.{Collected}
@@ -14,6 +14,10 @@ use Rattle.session.specs.State.{view, relist}
 -- the record's slot and its off time
 abbrev pub off_of : PlayerRecord → Off
 off_of r = record { slot = r.slot; at = unwrap_or r.off_at 0 }
+
+-- the same where the record is the voice's and its off time waits
+unfoldable pub off_for : ℕ → PlayerRecord → Option Off
+off_for v r = cond (waits v r) (Some (off_of r)) None
 
 -- the voice's off times that wait, each with its slot, in list order
 abbrev pub off_times : ℕ → List PlayerRecord → List Off

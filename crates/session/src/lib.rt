@@ -6,13 +6,13 @@ ghost use Rattle.std.specs.Prelude.{◌≡◌, true, false, not, Bool, [], lengt
 ghost use Rattle.session.specs.Lists.{used_of, elem, twice, packed, AnswersAs};
 ghost use Rattle.session.specs.Records.{marked, ended, collected, entered, shares_both, choked_by, shares_note, may_yield, of_region, is_sister, quieter, older, of_voice, in_slots, waits, in_window};
 ghost use Rattle.session.specs.Rules.{choke, choke_one, mark_sisters, lowest, surplus_of, after_note_polyphony, polyphony, start_marks, enter, without_voice, without_slots, yield_up, end_oldest, mark_ended, collect, collect_first};
-ghost use Rattle.session.specs.Offs.{off_of, off_times, add_off, offs_of, collected_offs, took_first};
+ghost use Rattle.session.specs.Offs.{off_for, off_times, add_off, offs_of, collected_offs, took_first};
 ghost use Rattle.session.specs.Tests.{is_live, over_live, twice_live, stray_record, over_records, over_voice, over_held, region_outside, slots_in_order, attack_playing};
-ghost use Rattle.session.specs.State.{view, relist, no_start, start_list, started_many, slot_list, live_ids, with_voices, opened, freed, with_seq, seq_stepped, seq_hit, serial_up, held_up, held_down, ended_voice, closed_voice, no_record, fresh_session, has_place, placed};
+ghost use Rattle.session.specs.State.{view, relist, no_start, start_list, started_many, slot_list, live_ids, with_voices, opened, freed, with_seq, seq_stepped, seq_hit, serial_up, held_up, held_down, ended_voice, closed_voice, fresh_session, has_place, placed};
 
 // One sounding region of some voice, as the program's other voices see it. The small fields stand together, so that a record takes 56
 // bytes and not 64: it is copied often (docs/SPEED.md).
-#[derive(Clone, Copy)]
+#[derive(Clone, Copy, PartialEq, Eq, Default)]
 pub struct PlayerRecord {
     pub voice: u64,
     pub slot: u32,
@@ -27,8 +27,9 @@ pub struct PlayerRecord {
     pub off_at: Option<u64>,
 }
 
-// For each region its sequence counter, and whether its position was hit at the last note-on of a key in its range.
-#[derive(Clone, Copy)]
+// For each region its sequence counter, and whether its position was hit at the last note-on of a key in its range. Two arrays of 1,280
+// bytes: an array of both together would take 2,048, since a flag would be padded to a counter's size, in a value that calls copy.
+#[derive(Clone, Copy, PartialEq, Eq)]
 pub struct Sequences {
     pub seq_counter: [u32; 256],
     pub seq_on: [bool; 256],
@@ -36,14 +37,14 @@ pub struct Sequences {
 
 // The ids of the live voices, and the next id. A list is an array with its count beside it, here and in each type below: memory is fixed,
 // and there is no heap.
-#[derive(Clone, Copy)]
+#[derive(Clone, Copy, PartialEq, Eq)]
 pub struct LiveVoices {
     pub ids: [u64; 16],
     pub count: usize,
     pub next_voice: u64,
 }
 
-#[derive(Clone, Copy)]
+#[derive(Clone, Copy, PartialEq, Eq)]
 pub struct Session {
     pub players: [PlayerRecord; 512],
     pub count: usize,
@@ -54,7 +55,7 @@ pub struct Session {
 }
 
 // A region that starts: what its record will hold, the time, and its limits.
-#[derive(Clone, Copy)]
+#[derive(Clone, Copy, PartialEq, Eq, Default)]
 pub struct Start {
     pub voice: u64,
     pub region: u32,
@@ -70,21 +71,22 @@ pub struct Start {
 }
 
 // The starts of one event, in turn.
-#[derive(Drop)]
+#[derive(PartialEq, Eq, Drop)]
 pub struct Starts {
     pub starts: [Start; 256],
     pub count: usize,
 }
 
 // Slots of a voice's players, in order.
-#[derive(Clone, Copy)]
+#[derive(Clone, Copy, PartialEq, Eq)]
 pub struct Slots {
     pub slots: [u32; 32],
     pub count: usize,
 }
 
-// The keys and velocities of a region.
-#[derive(Clone, Copy)]
+// The keys and velocities of a region, as program's own `Window` has them: session stands on no crate, and the crate over both may write no
+// `From` between two types of others.
+#[derive(Clone, Copy, PartialEq, Eq)]
 pub struct Window {
     pub lokey: u8,
     pub hikey: u8,
@@ -93,34 +95,34 @@ pub struct Window {
 }
 
 // A slot, and the time at which it is turned off.
-#[derive(Clone, Copy)]
+#[derive(Clone, Copy, PartialEq, Eq, Default)]
 pub struct Off {
     pub slot: u32,
     pub at: u64,
 }
 
-#[derive(Clone, Copy)]
+#[derive(Clone, Copy, PartialEq, Eq)]
 pub struct Offs {
     pub offs: [Off; 32],
     pub count: usize,
 }
 
-// A session, and the off times that a voice has taken from it.
-#[derive(Drop)]
+// What a call hands out beside the session. The field is named by what it is, here and in the next two: of a tuple it would be `.1`.
+#[derive(PartialEq, Eq, Drop)]
 pub struct Collected {
     pub session: Session,
     pub offs: Offs,
 }
 
 // A session, and the first off time that a voice has taken from it.
-#[derive(Drop)]
+#[derive(PartialEq, Eq, Drop)]
 pub struct Took {
     pub session: Session,
     pub first: Option<Off>,
 }
 
 // A session, with a new voice and its id where one had a place.
-#[derive(Drop)]
+#[derive(PartialEq, Eq, Drop)]
 pub struct Opened {
     pub session: Session,
     pub id: Option<u64>,
@@ -128,31 +130,161 @@ pub struct Opened {
 
 // ---- one record
 
-// The record with its off mark set and its off time.
-fn mark(r: PlayerRecord, at: u64) -> PlayerRecord
-    ensures { result ≡ marked at r }
-{
-    PlayerRecord {
-        offed: true,
-        off_at: Some(at),
-        ..r
+impl PlayerRecord {
+    // With its off mark set and its off time.
+    fn marked(self, at: u64) -> PlayerRecord
+        ensures { result ≡ marked at self }
+    {
+        PlayerRecord {
+            offed: true,
+            off_at: Some(at),
+            ..self
+        }
+    }
+
+    // Of a player whose sample has ended.
+    fn ended(self) -> PlayerRecord
+        ensures { result ≡ ended self }
+    {
+        PlayerRecord {
+            offed: true,
+            ..self
+        }
+    }
+
+    // With its off time taken.
+    fn collected(self) -> PlayerRecord
+        ensures { result ≡ collected self }
+    {
+        PlayerRecord {
+            off_at: None,
+            ..self
+        }
+    }
+
+    // Whether it is unmarked and has this voice and start.
+    #[tactic(auto, unfolding(crate::specs::Records::is_sister))]
+    fn is_sister(self, voice: u64, start: u64) -> bool
+        ensures { result ≡ is_sister voice start self }
+    {
+        !self.offed && self.voice == voice && self.start == start
+    }
+
+    #[tactic(auto, unfolding(crate::specs::Records::older))]
+    fn is_older(self, than: PlayerRecord) -> bool
+        ensures { result ≡ older self than }
+    {
+        self.start < than.start
+    }
+
+    // Whether it has the lower velocity, or the same and the lower start.
+    #[tactic(auto, unfolding(crate::specs::Records::quieter, crate::specs::Records::older))]
+    fn is_quieter(self, than: PlayerRecord) -> bool
+        ensures { result ≡ quieter self than }
+    {
+        (self.vel, self.start) < (than.vel, than.start)
+    }
+
+    // Whether it is the voice's, in one of the slots.
+    #[tactic(auto, unfolding(crate::specs::Records::in_slots))]
+    fn in_slots(self, voice: u64, slots: &[u32]) -> bool
+        ensures { result ≡ in_slots voice slots.now self }
+    {
+        self.voice == voice && slots.contains(&self.slot)
+    }
+
+    // Whether it is the voice's and its off time waits.
+    #[tactic(auto, unfolding(crate::specs::Records::waits))]
+    pub fn is_waiting(self, voice: u64) -> bool
+        ensures { result ≡ waits voice self }
+    {
+        self.voice == voice && self.off_at.is_some()
+    }
+
+    // Its off time with its slot, where it is the voice's and its off time waits.
+    #[tactic(auto, unfolding(crate::specs::Offs::off_for, crate::specs::Records::waits))]
+    fn off_for(self, voice: u64) -> Option<Off>
+        ensures { result ≡ off_for voice self }
+    {
+        let off = self.off_at.map(|at| Off {
+            slot: self.slot,
+            at,
+        });
+        off.filter(|_| self.voice == voice)
+    }
+
+    // Whether it is a note-on record whose note and velocity lie in the window.
+    #[tactic(auto, unfolding(crate::specs::Records::in_window))]
+    fn in_window(self, w: Window) -> bool
+        ensures { result ≡ in_window w self }
+    {
+        self.on_note
+            && (w.lokey..=w.hikey).contains(&self.note)
+            && (w.lovel..=w.hivel).contains(&self.vel)
     }
 }
 
-// Whether the record has both the start's group and its note.
-#[tactic(auto, unfolding(crate::specs::Records::shares_both))]
-fn shares_both(r: PlayerRecord, st: Start) -> bool
-    ensures { result ≡ shares_both st r }
-{
-    r.group == st.group && r.note == st.note
-}
+// ---- what a start asks of a record, and the record that it enters
 
-// Whether the start chokes the record.
-#[tactic(auto, unfolding(crate::specs::Records::choked_by))]
-fn choked_by(r: PlayerRecord, st: Start) -> bool
-    ensures { result ≡ choked_by st r }
-{
-    !r.offed && r.on_note && r.off_by == Some(st.group) && !shares_both(r, st)
+impl Start {
+    // Whether the record has both its group and its note.
+    #[tactic(auto, unfolding(crate::specs::Records::shares_both))]
+    fn shares_both(self, r: PlayerRecord) -> bool
+        ensures { result ≡ shares_both self r }
+    {
+        r.group == self.group && r.note == self.note
+    }
+
+    // Whether it chokes the record.
+    #[tactic(auto, unfolding(crate::specs::Records::choked_by))]
+    fn chokes(self, r: PlayerRecord) -> bool
+        ensures { result ≡ choked_by self r }
+    {
+        !r.offed && r.on_note && r.off_by == Some(self.group) && !self.shares_both(r)
+    }
+
+    // Whether the record is unmarked and shares group and note with it.
+    #[tactic(auto, unfolding(crate::specs::Records::shares_note))]
+    fn shares_note(self, r: PlayerRecord) -> bool
+        ensures { result ≡ shares_note self r }
+    {
+        !r.offed && self.shares_both(r)
+    }
+
+    // Whether it is so, and no louder than the new note.
+    #[tactic(auto, unfolding(crate::specs::Records::may_yield))]
+    fn may_take(self, r: PlayerRecord) -> bool
+        ensures { result ≡ may_yield self r }
+    {
+        self.shares_note(r) && r.vel <= self.vel
+    }
+
+    // Whether the record is unmarked and has its region.
+    #[tactic(auto, unfolding(crate::specs::Records::of_region))]
+    fn shares_region(self, r: PlayerRecord) -> bool
+        ensures { result ≡ of_region self r }
+    {
+        !r.offed && r.region == self.region
+    }
+
+    // Its record, in a slot of its voice. The seven fields that both have stand in each by themselves: a struct of them would put a second
+    // name before each of the seven wherever a record is read.
+    fn entered(self, slot: u32) -> PlayerRecord
+        ensures { result ≡ entered self slot }
+    {
+        PlayerRecord {
+            voice: self.voice,
+            slot,
+            region: self.region,
+            group: self.group,
+            off_by: self.off_by,
+            note: self.note,
+            vel: self.vel,
+            on_note: self.on_note,
+            start: self.serial,
+            ..PlayerRecord::default()
+        }
+    }
 }
 
 // The record once the start is there: marked where the start chokes it.
@@ -160,54 +292,7 @@ fn choked_by(r: PlayerRecord, st: Start) -> bool
 pub fn choke_one(r: PlayerRecord, st: Start) -> PlayerRecord
     ensures { result ≡ choke_one st r }
 {
-    if choked_by(r, st) { mark(r, st.at) } else { r }
-}
-
-// Whether the record is unmarked and shares group and note with the start.
-#[tactic(auto, unfolding(crate::specs::Records::shares_note))]
-fn shares_note(r: PlayerRecord, st: Start) -> bool
-    ensures { result ≡ shares_note st r }
-{
-    !r.offed && shares_both(r, st)
-}
-
-// Whether it is so, and no louder than the new note.
-#[tactic(auto, unfolding(crate::specs::Records::may_yield))]
-fn may_yield(r: PlayerRecord, st: Start) -> bool
-    ensures { result ≡ may_yield st r }
-{
-    shares_note(r, st) && r.vel <= st.vel
-}
-
-// Whether the record is unmarked and has the start's region.
-#[tactic(auto, unfolding(crate::specs::Records::of_region))]
-fn of_region(r: PlayerRecord, st: Start) -> bool
-    ensures { result ≡ of_region st r }
-{
-    !r.offed && r.region == st.region
-}
-
-// Whether the record is unmarked and has this voice and start.
-#[tactic(auto, unfolding(crate::specs::Records::is_sister))]
-fn is_sister(r: PlayerRecord, voice: u64, start: u64) -> bool
-    ensures { result ≡ is_sister voice start r }
-{
-    !r.offed && r.voice == voice && r.start == start
-}
-
-#[tactic(auto, unfolding(crate::specs::Records::older))]
-fn is_older(a: PlayerRecord, b: PlayerRecord) -> bool
-    ensures { result ≡ older a b }
-{
-    a.start < b.start
-}
-
-// Whether `a` has the lower velocity, or the same and the lower start.
-#[tactic(auto, unfolding(crate::specs::Records::quieter, crate::specs::Records::older))]
-fn is_quieter(a: PlayerRecord, b: PlayerRecord) -> bool
-    ensures { result ≡ quieter a b }
-{
-    (a.vel, a.start) < (b.vel, b.start)
+    if st.chokes(r) { r.marked(st.at) } else { r }
 }
 
 // ---- what is in use of the arrays
@@ -269,43 +354,22 @@ pub fn choke(records: &mut [PlayerRecord], st: Start)
     ensures { records.new ≡ choke st records.old }
 {
     for r in records {
-        if choked_by(*r, st) {
-            *r = mark(*r, st.at);
+        if st.chokes(*r) {
+            *r = r.marked(st.at);
         }
     }
 }
 
-// Marks each unmarked record of the voice and the start.
+// Marks each unmarked record of the voice and the start: the two by themselves, since each of the three callers has them apart, and a
+// struct of both would be packed at each call to be compared field by field.
 fn mark_sisters(records: &mut [PlayerRecord], voice: u64, start: u64, at: u64)
     ensures { records.new ≡ mark_sisters voice start at records.old }
 {
     for r in records {
-        if is_sister(*r, voice, start) {
-            *r = mark(*r, at);
+        if r.is_sister(voice, start) {
+            *r = r.marked(at);
         }
     }
-}
-
-// Among the records no louder than the new note the quietest, then the oldest; of several the earliest in the list.
-fn quietest(records: &[PlayerRecord], st: Start) -> Option<PlayerRecord>
-    ensures { result ≡ lowest (may_yield st) quieter records.now }
-{
-    records
-        .iter()
-        .copied()
-        .filter(|r| may_yield(*r, st))
-        .reduce(|best, r| if is_quieter(r, best) { r } else { best })
-}
-
-// Among the records of the region the oldest; of several the earliest in the list.
-fn oldest(records: &[PlayerRecord], st: Start) -> Option<PlayerRecord>
-    ensures { result ≡ lowest (of_region st) older records.now }
-{
-    records
-        .iter()
-        .copied()
-        .filter(|r| of_region(*r, st))
-        .reduce(|best, r| if is_older(r, best) { r } else { best })
 }
 
 // How many have to go so that one more keeps to the limit, 0 acting as 1.
@@ -315,63 +379,90 @@ fn surplus(count: usize, limit: u32) -> usize
     count.saturating_sub((limit as usize).max(1) - 1)
 }
 
-// As often as `rounds` says one record yields, with its sisters, until none may.
-fn yield_up(records: &mut [PlayerRecord], st: Start, rounds: usize)
-    ensures { records.new ≡ yield_up st rounds records.old }
-{
-    for round in 0..rounds {
-        let Some(c) = quietest(records, st) else {
-            return;
-        };
-        mark_sisters(records, c.voice, c.start, st.at);
+impl Start {
+    // Among the records no louder than the new note the quietest, then the oldest; of several the earliest in the list.
+    fn quietest(self, records: &[PlayerRecord]) -> Option<PlayerRecord>
+        ensures { result ≡ lowest (may_yield self) quieter records.now }
+    {
+        records
+            .iter()
+            .copied()
+            .filter(|r| self.may_take(*r))
+            .reduce(|best, r| if r.is_quieter(best) { r } else { best })
     }
-}
 
-// Note polyphony.
-#[tactic(auto, unfolding(crate::specs::Rules::after_note_polyphony))]
-fn limit_note(records: &mut [PlayerRecord], st: Start)
-    ensures { records.new ≡ after_note_polyphony st records.old }
-{
-    if let Some(n) = st.note_polyphony {
-        let count = records.iter().filter(|r| shares_note(**r, st)).count();
-        yield_up(records, st, surplus(count, n));
+    // Among the records of the region the oldest; of several the earliest in the list.
+    fn oldest(self, records: &[PlayerRecord]) -> Option<PlayerRecord>
+        ensures { result ≡ lowest (of_region self) older records.now }
+    {
+        records
+            .iter()
+            .copied()
+            .filter(|r| self.shares_region(*r))
+            .reduce(|best, r| if r.is_older(best) { r } else { best })
     }
-}
 
-// Marks the oldest record of the region with its sisters.
-#[tactic(auto, unfolding(crate::specs::Rules::end_oldest))]
-fn end_oldest(records: &mut [PlayerRecord], st: Start)
-    ensures { records.new ≡ end_oldest st records.old }
-{
-    if let Some(old) = oldest(records, st) {
-        mark_sisters(records, old.voice, old.start, st.at);
-    }
-}
-
-// Polyphony by region.
-#[tactic(auto, unfolding(crate::specs::Rules::polyphony))]
-fn limit_region(records: &mut [PlayerRecord], st: Start)
-    ensures { records.new ≡ polyphony st records.old }
-{
-    if let Some(p) = st.polyphony {
-        let count = records.iter().filter(|r| of_region(**r, st)).count();
-        if p as usize <= count {
-            end_oldest(records, st);
+    // As often as `rounds` says one record yields, with its sisters, until none may.
+    fn yield_up(self, records: &mut [PlayerRecord], rounds: usize)
+        ensures { records.new ≡ yield_up self rounds records.old }
+    {
+        for round in 0..rounds {
+            let Some(c) = self.quietest(records) else {
+                return;
+            };
+            mark_sisters(records, c.voice, c.start, self.at);
         }
     }
-}
 
-// What a starting region, dropped or not, marks: the choke, then note polyphony, then polyphony by region.
-#[tactic(auto, unfolding(crate::specs::Rules::start_marks))]
-fn mark_start(records: &mut [PlayerRecord], st: Start)
-    ensures { records.new ≡ start_marks st records.old }
-{
-    choke(records, st);
-    limit_note(records, st);
-    limit_region(records, st);
+    // Note polyphony.
+    #[tactic(auto, unfolding(crate::specs::Rules::after_note_polyphony))]
+    fn limit_note(self, records: &mut [PlayerRecord])
+        ensures { records.new ≡ after_note_polyphony self records.old }
+    {
+        if let Some(n) = self.note_polyphony {
+            let count = records.iter().filter(|r| self.shares_note(**r)).count();
+            self.yield_up(records, surplus(count, n));
+        }
+    }
+
+    // Marks the oldest record of the region with its sisters.
+    #[tactic(auto, unfolding(crate::specs::Rules::end_oldest))]
+    fn end_oldest(self, records: &mut [PlayerRecord])
+        ensures { records.new ≡ end_oldest self records.old }
+    {
+        if let Some(old) = self.oldest(records) {
+            mark_sisters(records, old.voice, old.start, self.at);
+        }
+    }
+
+    // Polyphony by region.
+    #[tactic(auto, unfolding(crate::specs::Rules::polyphony))]
+    fn limit_region(self, records: &mut [PlayerRecord])
+        ensures { records.new ≡ polyphony self records.old }
+    {
+        if let Some(p) = self.polyphony {
+            let count = records.iter().filter(|r| self.shares_region(**r)).count();
+            if p as usize <= count {
+                self.end_oldest(records);
+            }
+        }
+    }
+
+    // What a starting region, dropped or not, marks: the choke, then note polyphony, then polyphony by region.
+    #[tactic(auto, unfolding(crate::specs::Rules::start_marks))]
+    fn mark(self, records: &mut [PlayerRecord])
+        ensures { records.new ≡ start_marks self records.old }
+    {
+        choke(records, self);
+        self.limit_note(records);
+        self.limit_region(records);
+    }
 }
 
 // ---- the same of a session
+//
+// Each takes the list in use apart from the places behind it, in the same three lines: a method that lends `&mut self.players[..n]` was
+// tried, and what the session is once the slice is given back was not proved of a part of an array.
 
 pub fn choke_all(s: Session, st: Start) -> Session
     ensures { result ≡ relist (choke st (view s)) s }
@@ -403,7 +494,7 @@ fn mark_for(s: &mut Session, st: Start)
     let n = used::<512>(s.count);
     s.count = n;
     let (records, _) = s.players.split_at_mut(n);
-    mark_start(records, st);
+    st.mark(records);
 }
 
 pub fn start_marks(s: Session, st: Start) -> Session
@@ -416,35 +507,18 @@ pub fn start_marks(s: Session, st: Start) -> Session
 
 // ---- entering and removing
 
-// The record of a region that starts in a slot of its voice.
-fn entry(st: Start, slot: u32) -> PlayerRecord
-    ensures { result ≡ entered st slot }
-{
-    PlayerRecord {
-        voice: st.voice,
-        slot,
-        region: st.region,
-        group: st.group,
-        off_by: st.off_by,
-        note: st.note,
-        vel: st.vel,
-        on_note: st.on_note,
-        start: st.serial,
-        offed: false,
-        off_at: None,
-    }
-}
-
-// One more record at the end of the list, where it has room.
-#[tactic(auto, unfolding(crate::specs::Rules::enter))]
-fn enter(s: &mut Session, r: PlayerRecord)
-    ensures { s.new ≡ relist (enter r (view s.old)) s.old }
-{
-    let n = used::<512>(s.count);
-    s.count = n;
-    if n < 512 {
-        s.players[n] = r;
-        s.count = n + 1;
+impl Session {
+    // One more record at the end of the list, where it has room.
+    #[tactic(auto, unfolding(crate::specs::Rules::enter))]
+    fn push(&mut self, r: PlayerRecord)
+        ensures { self.new ≡ relist (enter r (view self.old)) self.old }
+    {
+        let n = used::<512>(self.count);
+        self.count = n;
+        if n < 512 {
+            self.players[n] = r;
+            self.count = n + 1;
+        }
     }
 }
 
@@ -452,7 +526,7 @@ pub fn enter_record(s: Session, st: Start, slot: u32) -> Session
     ensures { result ≡ relist (enter (entered st slot) (view s)) s }
 {
     let mut t = s;
-    enter(&mut t, entry(st, slot));
+    t.push(st.entered(slot));
     t
 }
 
@@ -460,19 +534,7 @@ pub fn enter_record(s: Session, st: Start, slot: u32) -> Session
 pub fn no_start() -> Start
     ensures { result ≡ no_start }
 {
-    Start {
-        voice: 0,
-        region: 0,
-        group: 0,
-        off_by: None,
-        note: 0,
-        vel: 0,
-        on_note: false,
-        serial: 0,
-        at: 0,
-        note_polyphony: None,
-        polyphony: None,
-    }
+    Start::default()
 }
 
 // The starts of one event, in turn. The voice holds `held` players, and `slot` is its next slot: each start marks, and where the voice
@@ -486,20 +548,12 @@ pub fn start_many(s: Session, b: Starts, held: usize, slot: u32) -> Session
     for st in b.as_slice() {
         mark_for(&mut t, *st);
         if count < 32 {
-            enter(&mut t, entry(*st, next));
+            t.push(st.entered(next));
             count += 1;
             next = next.wrapping_add(1);
         }
     }
     t
-}
-
-// Whether the record is the voice's, in one of the slots.
-#[tactic(auto, unfolding(crate::specs::Records::in_slots))]
-fn in_slots(r: PlayerRecord, voice: u64, slots: &[u32]) -> bool
-    ensures { result ≡ in_slots voice slots.now r }
-{
-    r.voice == voice && slots.contains(&r.slot)
 }
 
 // The elements that stay move up and keep their order: how many there are. By index, since one slice is read and written.
@@ -529,7 +583,8 @@ pub fn remove_voice(s: Session, voice: u64) -> Session
     t
 }
 
-// Removes the voice's records in the slots.
+// Removes the voice's records in the slots. A voice hands its id and slots to this and two calls below: one struct of both would be packed
+// at each call, and taken apart by the test of a record.
 pub fn remove_slots(s: Session, voice: u64, ks: Slots) -> Session
     ensures { result ≡ relist (without_slots voice (slot_list ks) (view s)) s }
 {
@@ -537,7 +592,7 @@ pub fn remove_slots(s: Session, voice: u64, ks: Slots) -> Session
     let n = used::<512>(s.count);
     let mut t = s;
     let (records, _) = t.players.split_at_mut(n);
-    t.count = retain(records, |r| !in_slots(*r, voice, slots));
+    t.count = retain(records, |r| !r.in_slots(voice, slots));
     t
 }
 
@@ -545,31 +600,29 @@ pub fn remove_slots(s: Session, voice: u64, ks: Slots) -> Session
 
 // Whether the session has a live voice with this id.
 #[tactic(auto, unfolding(crate::specs::Tests::is_live))]
-pub fn is_live(s: Session, id: u64) -> bool
-    ensures { result ≡ is_live id s }
+pub fn is_live(s: &Session, id: u64) -> bool
+    ensures { result ≡ is_live id s.now }
 {
     s.voices.as_slice().contains(&id)
 }
 
-// Whether fewer than sixteen voices are live and the next id is within its limit.
-fn has_place(v: LiveVoices) -> bool
-    ensures { result ≡ has_place v }
-{
-    v.count < 16 && v.next_voice <= 0x8000_0000_0000_0000
-}
+impl LiveVoices {
+    // Whether fewer than sixteen voices are live and the next id is within its limit.
+    fn has_place(self) -> bool
+        ensures { result ≡ has_place self }
+    {
+        self.count < 16 && self.next_voice <= 0x8000_0000_0000_0000
+    }
 
-// The next id takes a place.
-fn take_place(v: LiveVoices) -> LiveVoices
-    requires { has_place v ≡ true }
-    ensures { result ≡ placed v }
-{
-    let n = v.count;
-    let id = v.next_voice;
-    let mut w = v;
-    w.ids[n] = id;
-    w.count = n + 1;
-    w.next_voice = id + 1;
-    w
+    // The next id takes a place.
+    fn push_next(&mut self)
+        requires { has_place self.old ≡ true }
+        ensures { self.new ≡ placed self.old }
+    {
+        self.ids[self.count] = self.next_voice;
+        self.count += 1;
+        self.next_voice += 1;
+    }
 }
 
 // A new voice: its id, and its place among the live ones.
@@ -577,18 +630,17 @@ fn take_place(v: LiveVoices) -> LiveVoices
 pub fn new_voice(s: Session) -> Opened
     ensures { result ≡ opened s }
 {
-    let v = s.voices;
-    if !has_place(v) {
+    let mut voices = s.voices;
+    if !voices.has_place() {
         return Opened {
             session: s,
             id: None,
         };
     }
-    let mut t = s;
-    t.voices = take_place(v);
+    voices.push_next();
     Opened {
-        session: t,
-        id: Some(v.next_voice),
+        session: Session { voices, ..s },
+        id: Some(s.voices.next_voice),
     }
 }
 
@@ -612,42 +664,45 @@ fn seq_hit(c: u32, length: u32, position: u32) -> bool
     length != 0 && c % length + 1 == position
 }
 
-#[tactic(auto, unfolding(crate::specs::State::seq_stepped))]
-pub fn step_sequence(q: Sequences, region: usize, length: u32, position: u32) -> Sequences
-    ensures { result ≡ seq_stepped region length position q }
-{
-    if 256 <= region {
-        return q;
+impl Sequences {
+    // Whether the region's position was hit at the last note-on of a key in its range.
+    pub fn is_on(self, region: usize) -> bool
+        ensures { result ≡ slice_index_or self.seq_on region false }
+    {
+        self.seq_on.get(region).copied().unwrap_or(false)
     }
-    let mut t = q;
-    let c = t.seq_counter[region];
-    t.seq_counter[region] = c.wrapping_add(1);
-    t.seq_on[region] = seq_hit(c, length, position);
-    t
+
+    // A note-on in the region's range moves its counter and sets its flag. Length and position come as they stand in program's `Seq`, a
+    // type of a crate that this one does not stand on.
+    #[tactic(auto, unfolding(crate::specs::State::seq_stepped))]
+    pub fn step(self, region: usize, length: u32, position: u32) -> Sequences
+        ensures { result ≡ seq_stepped region length position self }
+    {
+        if 256 <= region {
+            return self;
+        }
+        let mut t = self;
+        let c = t.seq_counter[region];
+        t.seq_counter[region] = c.wrapping_add(1);
+        t.seq_on[region] = seq_hit(c, length, position);
+        t
+    }
 }
 
-// A note-on in the region's range moves its sequence counter and sets its flag.
+// The same of the session's.
 pub fn seq_step(s: Session, region: u32, length: u32, position: u32) -> Session
     ensures { result ≡ with_seq (seq_stepped region length position s.seq) s }
 {
-    let q = s.seq;
     Session {
-        seq: step_sequence(q, region as usize, length, position),
+        seq: s.seq.step(region as usize, length, position),
         ..s
     }
 }
 
-pub fn flag_of(q: Sequences, region: usize) -> bool
-    ensures { result ≡ slice_index_or q.seq_on region false }
-{
-    q.seq_on.get(region).copied().unwrap_or(false)
-}
-
-// Whether the region's position was hit at the last note-on of a key in its range.
 pub fn seq_is_on(s: Session, region: u32) -> bool
     ensures { result ≡ slice_index_or s.seq.seq_on region false }
 {
-    flag_of(s.seq, region as usize)
+    s.seq.is_on(region as usize)
 }
 
 // One event more.
@@ -677,7 +732,8 @@ pub fn lower_held(s: Session) -> Session
     Session { held: n, ..s }
 }
 
-// The end of all of a voice's notes: its records leave the list, and its gate is held no more.
+// The end of all of a voice's notes: its records leave the list, and its gate is held no more. `gate_held` is the voice's state, which its
+// own record of the gate gives.
 pub fn end_voice(s: Session, voice: u64, gate_held: bool) -> Session
     ensures { result ≡ ended_voice voice gate_held s }
 {
@@ -693,44 +749,23 @@ pub fn close_voice(s: Session, voice: u64, gate_held: bool) -> Session
     free_voice(t, voice)
 }
 
-fn no_record() -> PlayerRecord
-    ensures { result ≡ no_record }
-{
-    PlayerRecord {
-        voice: 0,
-        slot: 0,
-        region: 0,
-        group: 0,
-        off_by: None,
-        note: 0,
-        vel: 0,
-        on_note: false,
-        start: 0,
-        offed: false,
-        off_at: None,
-    }
-}
-
 // A session without records and without voices.
 #[tactic(auto, unfolding(crate::specs::State::fresh_session))]
 pub fn fresh_session() -> Session
     ensures { result ≡ fresh_session }
 {
-    let players = [no_record(); 512];
-    let seq = Sequences {
-        seq_counter: [0; 256],
-        seq_on: [false; 256],
-    };
-    let voices = LiveVoices {
-        ids: [0; 16],
-        count: 0,
-        next_voice: 1,
-    };
     Session {
-        players,
+        players: [PlayerRecord::default(); 512],
         count: 0,
-        seq,
-        voices,
+        seq: Sequences {
+            seq_counter: [0; 256],
+            seq_on: [false; 256],
+        },
+        voices: LiveVoices {
+            ids: [0; 16],
+            count: 0,
+            next_voice: 1,
+        },
         event_serial: 0,
         held: 0,
     }
@@ -738,46 +773,24 @@ pub fn fresh_session() -> Session
 
 // ---- a voice's own off times
 
-// Whether the record is the voice's and its off time waits.
-#[tactic(auto, unfolding(crate::specs::Records::waits))]
-pub fn is_waiting(r: PlayerRecord, voice: u64) -> bool
-    ensures { result ≡ waits voice r }
-{
-    r.voice == voice && r.off_at.is_some()
-}
-
-fn off_of(r: PlayerRecord) -> Off
-    ensures { result ≡ off_of r }
-{
-    Off {
-        slot: r.slot,
-        at: r.off_at.unwrap_or(0),
+impl Offs {
+    fn new() -> Offs
+        ensures { result ≡ offs_of [] }
+    {
+        Offs {
+            offs: [Off::default(); 32],
+            count: 0,
+        }
     }
-}
 
-// The record with its off time taken.
-fn clear_off(r: PlayerRecord) -> PlayerRecord
-    ensures { result ≡ collected r }
-{
-    PlayerRecord { off_at: None, ..r }
-}
-
-#[tactic(auto, unfolding(crate::specs::Offs::add_off))]
-fn add_off(q: &mut Offs, o: Off)
-    ensures { q.new ≡ add_off o q.old }
-{
-    if q.count < 32 {
-        q.offs[q.count] = o;
-        q.count += 1;
-    }
-}
-
-fn no_offs() -> Offs
-    ensures { result ≡ offs_of [] }
-{
-    Offs {
-        offs: [Off { slot: 0, at: 0 }; 32],
-        count: 0,
+    #[tactic(auto, unfolding(crate::specs::Offs::add_off))]
+    fn push(&mut self, off: Off)
+        ensures { self.new ≡ add_off off self.old }
+    {
+        if self.count < 32 {
+            self.offs[self.count] = off;
+            self.count += 1;
+        }
     }
 }
 
@@ -786,11 +799,11 @@ fn collect(records: &mut [PlayerRecord], voice: u64) -> Offs
     ensures taken { records.new ≡ collect voice records.old }
     ensures offs { result ≡ offs_of (off_times voice records.old) }
 {
-    let mut offs = no_offs();
+    let mut offs = Offs::new();
     for r in records {
-        if is_waiting(*r, voice) {
-            add_off(&mut offs, off_of(*r));
-            *r = clear_off(*r);
+        if let Some(off) = r.off_for(voice) {
+            offs.push(off);
+            *r = r.collected();
         }
     }
     offs
@@ -811,7 +824,7 @@ pub fn collect_offs(s: Session, voice: u64) -> Collected
 fn first_waiting(records: &[PlayerRecord], voice: u64) -> Option<usize>
     ensures { result ≡ position (waits voice) records.now }
 {
-    records.iter().position(|r| is_waiting(*r, voice))
+    records.iter().position(|r| r.is_waiting(voice))
 }
 
 // Takes the first off time that waits on the voice's records.
@@ -822,8 +835,8 @@ fn take_first(records: &mut [PlayerRecord], voice: u64) -> Option<Off>
 {
     let k = first_waiting(records, voice)?;
     let r = records[k];
-    records[k] = clear_off(r);
-    Some(off_of(r))
+    records[k] = r.collected();
+    r.off_for(voice)
 }
 
 pub fn take_first_off(s: Session, voice: u64) -> Took
@@ -837,20 +850,13 @@ pub fn take_first_off(s: Session, voice: u64) -> Took
     Took { session: t, first }
 }
 
-// The record of a player whose sample has ended.
-fn end_record(r: PlayerRecord) -> PlayerRecord
-    ensures { result ≡ ended r }
-{
-    PlayerRecord { offed: true, ..r }
-}
-
 // Marks the voice's records in the slots as ended.
 fn end_slots(records: &mut [PlayerRecord], voice: u64, slots: &[u32])
     ensures { records.new ≡ mark_ended voice slots.now records.old }
 {
     for r in records {
-        if in_slots(*r, voice, slots) {
-            *r = end_record(*r);
+        if r.in_slots(voice, slots) {
+            *r = r.ended();
         }
     }
 }
@@ -866,30 +872,21 @@ pub fn mark_ended(s: Session, voice: u64, ks: Slots) -> Session
     t
 }
 
-// Whether the record is a note-on record whose note and velocity lie in the window.
-#[tactic(auto, unfolding(crate::specs::Records::in_window))]
-fn in_window(r: PlayerRecord, w: Window) -> bool
-    ensures { result ≡ in_window w r }
-{
-    r.on_note && w.lokey <= r.note && r.note <= w.hikey && w.lovel <= r.vel && r.vel <= w.hivel
-}
-
 // Whether some note-on record, marked or not, has its note and velocity in the window: the attack that a release region asks for.
 #[tactic(auto, unfolding(crate::specs::Tests::attack_playing))]
 pub fn attack_playing(s: Session, w: Window) -> bool
     ensures { result ≡ attack_playing w s }
 {
-    s.records().iter().any(|r| in_window(*r, w))
+    s.records().iter().any(|r| r.in_window(w))
 }
 
 // ---- what a session must not be like, each cause by itself
 
 // More than sixteen live voices.
-pub fn over_live(s: Session) -> bool
-    ensures { result ≡ over_live s }
+pub fn over_live(s: &Session) -> bool
+    ensures { result ≡ over_live s.now }
 {
-    let v = s.voices;
-    16 < v.count
+    16 < s.voices.count
 }
 
 fn stands_twice(ids: &[u64]) -> bool
@@ -903,8 +900,8 @@ fn stands_twice(ids: &[u64]) -> bool
 
 // Two live voices with one id.
 #[tactic(auto, unfolding(crate::specs::Tests::twice_live))]
-pub fn twice_live(s: Session) -> bool
-    ensures { result ≡ twice_live s }
+pub fn twice_live(s: &Session) -> bool
+    ensures { result ≡ twice_live s.now }
 {
     stands_twice(s.voices.as_slice())
 }
@@ -918,16 +915,16 @@ fn is_stray(r: PlayerRecord, ids: &[u64]) -> bool
 
 // A record of a voice not live.
 #[tactic(auto, unfolding(crate::specs::Tests::stray_record))]
-pub fn stray_record(s: Session) -> bool
-    ensures { result ≡ stray_record s }
+pub fn stray_record(s: &Session) -> bool
+    ensures { result ≡ stray_record s.now }
 {
     let ids = s.voices.as_slice();
     s.records().iter().any(|r| is_stray(*r, ids))
 }
 
 // More than 512 records.
-pub fn over_records(s: Session) -> bool
-    ensures { result ≡ over_records s }
+pub fn over_records(s: &Session) -> bool
+    ensures { result ≡ over_records s.now }
 {
     512 < s.count
 }
@@ -941,8 +938,8 @@ fn count_voice(records: &[PlayerRecord], voice: u64) -> usize
 
 // More than 32 records of one live voice.
 #[tactic(auto, unfolding(crate::specs::Tests::over_voice))]
-pub fn over_voice(s: Session) -> bool
-    ensures { result ≡ over_voice s }
+pub fn over_voice(s: &Session) -> bool
+    ensures { result ≡ over_voice s.now }
 {
     // a list of 32 cannot have more of one voice
     if s.count <= 32 {
@@ -956,23 +953,23 @@ pub fn over_voice(s: Session) -> bool
 }
 
 // More than sixteen held gates.
-pub fn over_held(s: Session) -> bool
-    ensures { result ≡ over_held s }
+pub fn over_held(s: &Session) -> bool
+    ensures { result ≡ over_held s.now }
 {
     16 < s.held
 }
 
 // A record whose region is outside a program of so many regions.
 #[tactic(auto, unfolding(crate::specs::Tests::region_outside))]
-pub fn region_outside(s: Session, regions: u32) -> bool
-    ensures { result ≡ region_outside regions s }
+pub fn region_outside(s: &Session, regions: u32) -> bool
+    ensures { result ≡ region_outside regions s.now }
 {
     s.records().iter().any(|r| regions <= r.region)
 }
 
 // Whether the voice's records are its players' slots, in order.
-pub fn slots_in_order(s: Session, voice: u64, ks: Slots) -> bool
-    ensures { result ≡ slots_in_order voice (slot_list ks) s }
+pub fn slots_in_order(s: &Session, voice: u64, ks: Slots) -> bool
+    ensures { result ≡ slots_in_order voice (slot_list ks) s.now }
 {
     // `Iterator::eq` of the two leaves open what it says of the lists
     let slots = ks.as_slice();

@@ -1,7 +1,8 @@
 -- What each way out of a call owes its contract. Assumes nothing.
+use Rattle.std.specs.Prelude.{Ok, Err, is_ok, is_err}
 use Prim.Native.Nat.{ℕ, ◌+◌, ◌-◌, ◌^◌, ◌<◌, ◌≤◌}
 use mathlib.Core.Path.{◌≡◌, refl, sym, ap, ◌∙◌}
-use mathlib.Core.Bool.{Bool, true, false}
+use mathlib.Core.Bool.{Bool, true, false, true≢false}
 use mathlib.Core.List.{List, ◌++◌}
 use native.Mathlib.Omega.{arith}
 use lib.ListN.{length, take, drop, length-append, length-drop}
@@ -14,64 +15,38 @@ use Rattle.session.specs.declared.Session.{Session}
 use Rattle.events.specs.declared.SampleVoice.{SampleVoice}
 use Rattle.block.specs.Inputs.{Lent}
 use Rattle.block.specs.Block.{Played, played_block, block_start}
-use Rattle.causes.specs.Tests.{rate_fits, well_formed, state_fits, parts_fit, lengths_of, in_time}
+use Rattle.causes.specs.Tests.{rate_fits, well_formed, state_fits, lent_fits, in_time}
 use Rattle.causes.proofs.Passed.{with_outs, in_left, in_right}
-use Rattle.voice.specs.Calls.{if_done, called, fresh_voice, make_answer, made, Program, ask_answer, is_finished, asked, end_answer, silenced, was_reset, was_closed, BlockLeft, block_answer, over_front, block_done, blocked}
-use Rattle.voice.specs.declared.Answer.{Answer}
-use Rattle.voice.specs.declared.Answer.TheVariants.{Done, BadRate, TooManyVoices, BadBlock, BadState, TooLate}
+use Rattle.voice.specs.Calls.{Answer, done, if_done, called, fresh_voice, make_answer, made, Program, ask_answer, is_finished, asked, end_answer, silenced, was_reset, was_closed, BlockLeft, block_answer, over_front, block_done, blocked}
+use Rattle.voice.specs.declared.Refusal.TheVariants.{BadBlock, BadState, TooLate}
 use Rattle.voice.specs.declared.Called.{Called}
-use Rattle.voice.specs.declared.Asked.{Asked}
 use Rattle.voice.specs.declared.Closed.{Closed}
 
 -- ---- making
 module _ (rate : Float) (b : BoundProgram) (s : Session) where
-  made_as : (a : Answer) → make_answer rate s ≡ a → called a (if_done a (opened s).session s) (fresh_voice (if_done a s.voices.next_voice 0) rate b) ≡ made rate b s
+  abbrev made_as : Answer → Called
+  made_as a = called a (if_done a (opened s).session s) (fresh_voice (if_done a s.voices.next_voice 0) rate b)
+
+  pub make-back : (a : Answer) → a ≡ make_answer rate s → is_err a ≡ true → (w : SampleVoice) → w ≡ fresh_voice 0 rate b → called a s w ≡ made rate b s
   unfolding made
-  made_as a e = ap (λ (x : Answer). called x (if_done x (opened s).session s) (fresh_voice (if_done x s.voices.next_voice 0) rate b)) (sym e)
+  make-back (Ok x) e h w f = absurd (true≢false (sym h))
+  make-back (Err r) e h w f = ap (called (Err r) s) f ∙ ap made_as e
 
-  module _ (w : SampleVoice) where
-    pub make-5 : rate_fits rate ≡ false → w ≡ fresh_voice 0 rate b → called BadRate s w ≡ made rate b s
-    unfolding make_answer
-    make-5 e f = ap (called BadRate s) f ∙ made_as BadRate (simp e)
-
-    module _ (fits : rate_fits rate ≡ true) where
-      pub make-6 : 16 ≤ s.voices.count → w ≡ fresh_voice 0 rate b → called TooManyVoices s w ≡ made rate b s
-      unfolding make_answer
-      make-6 h f = ap (called TooManyVoices s) f ∙ made_as TooManyVoices (simp (fits, le-leb _ _ h))
-
-      module _ (room : s.voices.count < 16) where
-        pub make-9 : 2 ^ 63 < s.voices.next_voice → w ≡ fresh_voice 0 rate b → called TooLate s w ≡ made rate b s
-        unfolding make_answer
-        make-9 h f = ap (called TooLate s) f ∙ made_as TooLate (simp (fits, lt-leb _ _ room, lt-leb _ _ h))
-
-        pub make-done : (o : Opened) → s.voices.next_voice ≤ 2 ^ 63 → o ≡ opened s → w ≡ fresh_voice s.voices.next_voice rate b
-            → called Done o.session w ≡ made rate b s
-        unfolding make_answer
-        make-done o h g f =
-            ap (called Done o.session) f
-            ∙ ap (λ (x : Opened). called Done x.session (fresh_voice s.voices.next_voice rate b)) g
-            ∙ made_as Done (simp (fits, lt-leb _ _ room, le-leb _ _ h))
+  pub make-done : (a : Answer) → a ≡ make_answer rate s → is_err a ≡ false → (o : Opened) → o ≡ opened s → (w : SampleVoice) → w ≡ fresh_voice s.voices.next_voice rate b
+      → called a o.session w ≡ made rate b s
+  unfolding made
+  make-done (Ok x) e h o g w f = ap (called done o.session) f ∙ ap (λ (z : Opened). called done z.session (fresh_voice s.voices.next_voice rate b)) g ∙ ap made_as e
+  make-done (Err r) e h o g w f = absurd (true≢false h)
 
 -- ---- asking, reset and close
 module _ (k : Program) (s : Session) (v : SampleVoice) where
-  answer-as : (a : Answer) → ask_answer k s v ≡ a → record { answer = a; finished = if_done a (is_finished k.words v) false } ≡ asked k s v
-  unfolding asked
-  answer-as a e = ap asks (sym e)
-    where
-      asks : Answer → Asked
-      asks x = record { answer = x; finished = if_done x (is_finished k.words v) false }
+  pub ask-8 : state_fits s v k.words k.samples (length k.pcm) (length k.table) ≡ false → Err BadState ≡ asked k s v
+  unfolding asked ask_answer
+  ask-8 e = simp e
 
-  pub ask-8 : state_fits s v k.words k.samples (length k.pcm) (length k.table) ≡ false → record { answer = BadState; finished = false } ≡ asked k s v
-  unfolding ask_answer
-  ask-8 e = answer-as BadState (simp e)
-
-  pub ask-done : (b : Bool) → state_fits s v k.words k.samples (length k.pcm) (length k.table) ≡ true → b ≡ is_finished k.words v
-      → record { answer = Done; finished = b } ≡ asked k s v
-  unfolding ask_answer
-  ask-done b e f = ap answers f ∙ answer-as Done (simp e)
-    where
-      answers : Bool → Asked
-      answers t = record { answer = Done; finished = t }
+  pub ask-done : (b : Bool) → state_fits s v k.words k.samples (length k.pcm) (length k.table) ≡ true → b ≡ is_finished k.words v → Ok b ≡ asked k s v
+  unfolding asked ask_answer
+  ask-done b e f = simp (e, f)
 
 module _ (s : Session) (v : SampleVoice) where
   abbrev reset_as : Answer → Called
@@ -80,26 +55,41 @@ module _ (s : Session) (v : SampleVoice) where
   abbrev closed_as : Answer → Closed
   closed_as a = record { answer = a; session = if_done a (closed_voice v.voice v.gate_held s) s }
 
-  module _ (e : well_formed s v ≡ false) where
-    pub reset-8 : called BadState s v ≡ was_reset s v
-    unfolding was_reset end_answer
-    reset-8 = ap reset_as (sym (simp e))
+  module _ (a : Answer) (told : a ≡ end_answer s v) where
+    pub reset-back : is_err a ≡ true → called a s v ≡ was_reset s v
+    unfolding was_reset
+    reset-back h = by-case a told h
+      where
+        by-case : (x : Answer) → x ≡ end_answer s v → is_err x ≡ true → called x s v ≡ reset_as (end_answer s v)
+        by-case (Ok u) e h = absurd (true≢false (sym h))
+        by-case (Err r) e h = ap reset_as e
 
-    pub close-8 : record { answer = BadState; session = s } ≡ was_closed s v
-    unfolding was_closed end_answer
-    close-8 = ap closed_as (sym (simp e))
+    pub reset-done : is_err a ≡ false → (t : Session) → t ≡ ended_voice v.voice v.gate_held s → (w : SampleVoice) → w ≡ silenced v → called a t w ≡ was_reset s v
+    unfolding was_reset
+    reset-done h t f w g = by-case a told h
+      where
+        by-case : (x : Answer) → x ≡ end_answer s v → is_err x ≡ false → called x t w ≡ reset_as (end_answer s v)
+        by-case (Ok u) e h = ap (called done t) g ∙ ap (λ (y : Session). called done y (silenced v)) f ∙ ap reset_as e
+        by-case (Err r) e h = absurd (true≢false h)
 
-  module _ (e : well_formed s v ≡ true) (t : Session) where
-    pub reset-done : (w : SampleVoice) → t ≡ ended_voice v.voice v.gate_held s → w ≡ silenced v → called Done t w ≡ was_reset s v
-    unfolding was_reset end_answer
-    reset-done w f g = ap (called Done t) g ∙ ap (λ (x : Session). called Done x (silenced v)) f ∙ ap reset_as (sym (simp e))
+    pub close-back : is_ok a ≡ false → record { answer = a; session = s } ≡ was_closed s v
+    unfolding was_closed
+    close-back h = by-case a told h
+      where
+        by-case : (x : Answer) → x ≡ end_answer s v → is_ok x ≡ false → record { answer = x; session = s } ≡ closed_as (end_answer s v)
+        by-case (Ok u) e h = absurd (true≢false h)
+        by-case (Err r) e h = ap closed_as e
 
-    pub close-done : t ≡ closed_voice v.voice v.gate_held s → record { answer = Done; session = t } ≡ was_closed s v
-    unfolding was_closed end_answer
-    close-done f = ap closes f ∙ ap closed_as (sym (simp e))
+    pub close-done : is_ok a ≡ true → (t : Session) → t ≡ closed_voice v.voice v.gate_held s → record { answer = a; session = t } ≡ was_closed s v
+    unfolding was_closed
+    close-done h t f = by-case a told h
       where
         closes : Session → Closed
-        closes x = record { answer = Done; session = x }
+        closes x = record { answer = done; session = x }
+
+        by-case : (x : Answer) → x ≡ end_answer s v → is_ok x ≡ true → record { answer = x; session = t } ≡ closed_as (end_answer s v)
+        by-case (Ok u) e h = ap closes f ∙ ap closed_as e
+        by-case (Err r) e h = absurd (true≢false (sym h))
 
 -- ---- a block
 module _ (l : Lent) (s : Session) (v : SampleVoice) where
@@ -113,33 +103,33 @@ module _ (l : Lent) (s : Session) (v : SampleVoice) where
   unfolding blocked
   block-as a e = ap block_as (sym e)
 
-  pub block-7 : (c : Called) → c ≡ called BadBlock s v → parts_fit l.time.frames l.connected (lengths_of l) ≡ false → back c ≡ blocked l s v
+  pub block-7 : (c : Called) → c ≡ called (Err BadBlock) s v → lent_fits l ≡ false → back c ≡ blocked l s v
   unfolding block_answer
-  block-7 c f e = ap back f ∙ block-as BadBlock (simp e)
+  block-7 c f e = ap back f ∙ block-as (Err BadBlock) (simp e)
 
-  module _ (fits : parts_fit l.time.frames l.connected (lengths_of l) ≡ true) where
-    pub block-8 : (c : Called) → c ≡ called BadState s v → state_fits s v l.words l.samples (length l.pcm) (length l.table) ≡ false → back c ≡ blocked l s v
+  module _ (fits : lent_fits l ≡ true) where
+    pub block-8 : (c : Called) → c ≡ called (Err BadState) s v → state_fits s v l.words l.samples (length l.pcm) (length l.table) ≡ false → back c ≡ blocked l s v
     unfolding block_answer
-    block-8 c f e = ap back f ∙ block-as BadState (simp (fits, e))
+    block-8 c f e = ap back f ∙ block-as (Err BadState) (simp (fits, e))
 
     module _ (state : state_fits s v l.words l.samples (length l.pcm) (length l.table) ≡ true) where
-      pub block-9 : (c : Called) → c ≡ called TooLate s v → in_time l.time.offset s.event_serial ≡ false → back c ≡ blocked l s v
+      pub block-9 : (c : Called) → c ≡ called (Err TooLate) s v → in_time l.time.offset s.event_serial ≡ false → back c ≡ blocked l s v
       unfolding block_answer
-      block-9 c f e = ap back f ∙ block-as TooLate (simp (fits, state, e))
+      block-9 c f e = ap back f ∙ block-as (Err TooLate) (simp (fits, state, e))
 
       -- the block as played, in front of what is left of the outputs
       pub block-done : in_time l.time.offset s.event_serial ≡ true → (p : Played) → p ≡ played_block l s v
           → (left right : List Float) → left ≡ over_front p.left l.left → right ≡ over_front p.right l.right
-          → record { called = called Done p.both.session p.both.voice; left = left; right = right } ≡ blocked l s v
+          → record { called = called done p.both.session p.both.voice; left = left; right = right } ≡ blocked l s v
       unfolding block_answer block_done
-      block-done e p f left right g h = ap (outs left) h ∙ ap (λ (x : List Float). outs x (over_front p.right l.right)) g ∙ ap done f ∙ block-as Done (simp (fits, state, e))
+      block-done e p f left right g h = ap (outs left) h ∙ ap (λ (x : List Float). outs x (over_front p.right l.right)) g ∙ ap left_as f ∙ block-as done (simp (fits, state, e))
         where
           outs : List Float → List Float → BlockLeft
-          outs x y = record { called = called Done p.both.session p.both.voice; left = x; right = y }
+          outs x y = record { called = called done p.both.session p.both.voice; left = x; right = y }
 
-          done : Played → BlockLeft
-          done q = record {
-            called = called Done q.both.session q.both.voice;
+          left_as : Played → BlockLeft
+          left_as q = record {
+            called = called done q.both.session q.both.voice;
             left = over_front q.left l.left;
             right = over_front q.right l.right;
           }
@@ -161,16 +151,21 @@ front-is n xs ys h e =
 
 module _ (l : Lent) (s : Session) (v : SampleVoice) where
   -- what was played into the first frames of both outputs, and the outputs as the call leaves them
-  pub block_out : parts_fit l.time.frames l.connected (lengths_of l) ≡ true
+  pub block_out : lent_fits l ≡ true
       → state_fits s v l.words l.samples (length l.pcm) (length l.table) ≡ true → in_time l.time.offset s.event_serial ≡ true
-      → (p : Played) (a b : List Float) → p ≡ played_block (with_outs l a b) s v
+      → (r : Called) (p : Played) → r ≡ called done p.both.session p.both.voice → (a b : List Float) → p ≡ played_block (with_outs l a b) s v
       → length (take 0 l.left ++ (p.left ++ drop (l.time.frames - 0) (drop 0 l.left))) ≡ length l.left
       → length (take 0 l.right ++ (p.right ++ drop (l.time.frames - 0) (drop 0 l.right))) ≡ length l.right
       → record {
-        called = called Done p.both.session p.both.voice;
+        called = r;
         left = take 0 l.left ++ (p.left ++ drop (l.time.frames - 0) (drop 0 l.left));
         right = take 0 l.right ++ (p.right ++ drop (l.time.frames - 0) (drop 0 l.right));
       } ≡ blocked l s v
-  block_out fits state timely p a b e f g =
-      block-done l s v fits state timely p (e ∙ same-played l s v a b) _ _ (front-is l.time.frames l.left p.left (in_left l s v fits) f)
+  block_out fits state timely r p er a b e f g =
+      ap (λ (x : Called). record {
+        called = x;
+        left = take 0 l.left ++ (p.left ++ drop (l.time.frames - 0) (drop 0 l.left));
+        right = take 0 l.right ++ (p.right ++ drop (l.time.frames - 0) (drop 0 l.right));
+      }) er
+      ∙ block-done l s v fits state timely p (e ∙ same-played l s v a b) _ _ (front-is l.time.frames l.left p.left (in_left l s v fits) f)
       (front-is l.time.frames l.right p.right (in_right l s v fits) g)

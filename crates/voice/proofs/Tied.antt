@@ -1,5 +1,7 @@
 -- The promises that a run of the port cites are the functions' own, as the check reads their contracts. Assumes nothing.
+use Rattle.std.specs.Prelude.{Result}
 use mathlib.Core.Path.{◌≡◌}
+use mathlib.Core.Bool.{Bool}
 use lib.Ieee.{Float}
 use contract.Lifetimes.{Lfts}
 use denote.Triple.Clauses.{AtExit}
@@ -7,11 +9,11 @@ use borrow.Fn.Kinds.{ended_of, Dens}
 use Rattle.program.specs.declared.bind.BoundProgram.{BoundProgram}
 use Rattle.session.specs.declared.Session.{Session}
 use Rattle.events.specs.declared.SampleVoice.{SampleVoice}
-use Rattle.block.specs.Inputs.{Lent}
+use Rattle.block.specs.Inputs.{Lent, signals_of}
 use Rattle.voice.specs.Calls.{number_of, BlockLeft, made, blocked, Program, asked, was_reset, was_closed}
 use Rattle.voice.specs.Numbers.{make_number, block_number, ask_number, end_number}
 use Rattle.voice.specs.declared.Called.{Called}
-use Rattle.voice.specs.declared.Asked.{Asked}
+use Rattle.voice.specs.declared.Refusal.{Refusal}
 use Rattle.voice.specs.declared.Closed.{Closed}
 use Rattle.voice.proofs.make.Reads as make-reads
 use Rattle.voice.proofs.make.Kinds as make-kinds
@@ -36,11 +38,11 @@ pub close-says : (κs : Lfts 0) (s : Session) (v : SampleVoice) (r : Closed) (x 
     → close-reads.Post κs (s, (v, tt)) r x → (r ≡ was_closed s v) × (number_of r.answer ≡ end_number s v)
 close-says κs s v r x p = p
 
-pub ask-says : (κs : Lfts 4) (d : Dens κs ask-kinds.ps) (r : Asked) (x : AtExit (ended_of 4 ask-kinds.ps ask-kinds.r) κs) → ask-reads.Post κs d r x
-    → let k : Program = record { words = d.1.1.0.now; samples = d.1.1.1.0.now; pcm = d.1.1.1.1.0.now; table = d.1.1.1.1.1.0.now } in (r ≡ asked k d.0 d.1.0) × (number_of r.answer ≡ ask_number k d.0 d.1.0)
+pub ask-says : (κs : Lfts 4) (d : Dens κs ask-kinds.ps) (r : Result Bool Refusal) (x : AtExit (ended_of 4 ask-kinds.ps ask-kinds.r) κs) → ask-reads.Post κs d r x
+    → let k : Program = record { words = d.1.1.0.now; samples = d.1.1.1.0.now; pcm = d.1.1.1.1.0.now; table = d.1.1.1.1.1.0.now } in (r ≡ asked k d.0 d.1.0) × (number_of r ≡ ask_number k d.0 d.1.0)
 ask-says κs d r x p = p
 
-pub block-says : (κs : Lfts 13) (d : Dens κs block-kinds.ps) (r : Called) (x : AtExit (ended_of 13 block-kinds.ps block-kinds.r) κs) → block_reads.Post κs d r x
-    → let l : Lent = record { time = d.1.1.0; connected = d.1.1.1.0; words = d.1.1.1.1.0.now; samples = d.1.1.1.1.1.0.now; pcm = d.1.1.1.1.1.1.0.now; table = d.1.1.1.1.1.1.1.0.now; freq = d.1.1.1.1.1.1.1.1.0.now; gate = d.1.1.1.1.1.1.1.1.1.0.now; vel = d.1.1.1.1.1.1.1.1.1.1.0.now; amp = d.1.1.1.1.1.1.1.1.1.1.1.0.now; seed = d.1.1.1.1.1.1.1.1.1.1.1.1.0.now; bend = d.1.1.1.1.1.1.1.1.1.1.1.1.1.0.now; quality = d.1.1.1.1.1.1.1.1.1.1.1.1.1.1.0.now; left = d.1.1.1.1.1.1.1.1.1.1.1.1.1.1.1.0.now; right = d.1.1.1.1.1.1.1.1.1.1.1.1.1.1.1.1.0.now } in
-    (◌≡◌ {A = BlockLeft} (record { called = r; left = x.1.1.1.1.1.1.1.1.1.1.1.1.1.1.1.0.now; right = x.1.1.1.1.1.1.1.1.1.1.1.1.1.1.1.1.0.now }) (blocked l d.0 d.1.0)) × (number_of r.answer ≡ block_number l d.0 d.1.0)
+pub block-says : (κs : Lfts 7) (d : Dens κs block-kinds.ps) (r : Called) (x : AtExit (ended_of 7 block-kinds.ps block-kinds.r) κs) → block_reads.Post κs d r x
+    → let l : Lent = record { time = d.1.1.0; words = d.1.1.1.1.0.now; samples = d.1.1.1.1.1.0.now; pcm = d.1.1.1.1.1.1.0.now; table = d.1.1.1.1.1.1.1.0.now; inputs = signals_of d.1.1.1.0; left = d.1.1.1.1.1.1.1.1.0.now; right = d.1.1.1.1.1.1.1.1.1.0.now } in
+    (◌≡◌ {A = BlockLeft} (record { called = r; left = x.1.1.1.1.1.1.1.1.0.now; right = x.1.1.1.1.1.1.1.1.1.0.now }) (blocked l d.0 d.1.0)) × (number_of r.answer ≡ block_number l d.0 d.1.0)
 block-says κs d r x p = p

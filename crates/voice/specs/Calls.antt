@@ -1,6 +1,7 @@
 -- The public calls: their answers, and what each leaves. Definitions only.
 use Rattle.note.specs.declared.NoteState.{NoteState}
-use Rattle.std.specs.Prelude.{ℕ, Bool, false, not, ◌&&◌, List, ◌++◌, length, drop, eqb, Float, None, Option, Some, cond}
+use Rattle.std.specs.Prelude.{ℕ, Bool, false, not, ◌&&◌, List, ◌++◌, length, drop, eqb, Float, None, Option, Some, Result, Ok, Err, cond}
+use Rattle.std.specs.Result.{result_and}
 use Rattle.program.specs.Lookup.{has_release_for}
 use Rattle.program.specs.declared.bind.BoundProgram.{BoundProgram}
 use Rattle.players.specs.Seats.{no_players}
@@ -10,30 +11,36 @@ use Rattle.session.specs.declared.Session.{Session}
 use Rattle.events.specs.declared.SampleVoice.{SampleVoice}
 use Rattle.block.specs.Inputs.{Lent}
 use Rattle.block.specs.Block.{played_block}
-use Rattle.causes.specs.Tests.{rate_fits, no_place, id_left, parts_fit, lengths_of, well_formed, state_fits, in_time}
-use Rattle.voice.specs.declared.Answer.{Answer}
-use Rattle.voice.specs.declared.Answer.TheVariants.{Done, BadRate, TooManyVoices, BadBlock, BadState, TooLate}
+use Rattle.causes.specs.Tests.{rate_fits, no_place, id_left, lent_fits, well_formed, state_fits, in_time}
+use Rattle.voice.specs.declared.Refusal.{Refusal}
+use Rattle.voice.specs.declared.Refusal.TheVariants.{BadRate, TooManyVoices, BadBlock, BadState, TooLate}
 use Rattle.voice.specs.declared.Called.{Called}
-use Rattle.voice.specs.declared.Asked.{Asked}
 use Rattle.voice.specs.declared.Closed.{Closed}
 
--- 01's number of each answer; 0 where the call is done
-abbrev pub number_of : Answer → ℕ
-number_of Done = 0
-number_of BadRate = 5
-number_of TooManyVoices = 6
-number_of BadBlock = 7
-number_of BadState = 8
-number_of TooLate = 9
+-- 01's number of each refusal
+abbrev pub refusal_number : Refusal → ℕ
+refusal_number BadRate = 5
+refusal_number TooManyVoices = 6
+refusal_number BadBlock = 7
+refusal_number BadState = 8
+refusal_number TooLate = 9
+
+-- the number of what a call answers: 0 where it is done
+abbrev pub number_of : {A : Type 0} → Result A Refusal → ℕ
+number_of (Ok x) = 0
+number_of (Err r) = refusal_number r
+
+-- done, or why the call is turned back
+abbrev pub Answer : Type 0
+Answer = Result (Unit {0}) Refusal
+
+abbrev pub done : Answer
+done = Ok tt
 
 -- the new value where the call is done, the old one where it is turned back
 abbrev pub if_done : {A : Type 0} → Answer → A → A → A
-if_done Done new old = new
-if_done BadRate new old = old
-if_done TooManyVoices new old = old
-if_done BadBlock new old = old
-if_done BadState new old = old
-if_done TooLate new old = old
+if_done (Ok x) new old = new
+if_done (Err r) new old = old
 
 abbrev pub called : Answer → Session → SampleVoice → Called
 called a s v = record { answer = a; session = s; voice = v }
@@ -56,7 +63,7 @@ fresh_voice id rate b = record {
 }
 
 unfoldable pub make_answer : Float → Session → Answer
-make_answer rate s = cond (rate_fits rate) (cond (no_place s) TooManyVoices (cond (id_left s) Done TooLate)) BadRate
+make_answer rate s = cond (rate_fits rate) (cond (no_place s) (Err TooManyVoices) (cond (id_left s) done (Err TooLate))) (Err BadRate)
 
 -- a call that is turned back hands out a voice with the id 0, which no session grown from a fresh one gives: ids count from 1
 unfoldable pub made : Float → BoundProgram → Session → Called
@@ -68,9 +75,9 @@ made rate b s =
 
 unfoldable pub block_answer : Lent → Session → SampleVoice → Answer
 block_answer l s v =
-    cond (parts_fit l.time.frames l.connected (lengths_of l))
+    cond (lent_fits l)
     (cond (state_fits s v l.words l.samples (length l.pcm) (length l.table))
-    (cond (in_time l.time.offset s.event_serial) Done TooLate) BadState) BadBlock
+    (cond (in_time l.time.offset s.event_serial) done (Err TooLate)) (Err BadState)) (Err BadBlock)
 
 -- the block's frames in front; frames that were lent beyond it stay as they were
 abbrev pub over_front : List Float → List Float → List Float
@@ -86,7 +93,7 @@ unfoldable pub block_done : Lent → Session → SampleVoice → BlockLeft
 block_done l s v =
     let p = played_block l s v in
     record {
-      called = called Done p.both.session p.both.voice;
+      called = called done p.both.session p.both.voice;
       left = over_front p.left l.left;
       right = over_front p.right l.right;
     }
@@ -106,7 +113,7 @@ pub record Program : Type 0 where
   pub table : List Float
 
 unfoldable pub ask_answer : Program → Session → SampleVoice → Answer
-ask_answer k s v = cond (state_fits s v k.words k.samples (length k.pcm) (length k.table)) Done BadState
+ask_answer k s v = cond (state_fits s v k.words k.samples (length k.pcm) (length k.table)) done (Err BadState)
 
 -- a held note may still fire a release region of these words
 abbrev pub may_release : List ℕ → SampleVoice → Option NoteState → Bool
@@ -117,13 +124,13 @@ may_release ws v (Some n) = v.gate_held && has_release_for ws v.program.regions 
 unfoldable pub is_finished : List ℕ → SampleVoice → Bool
 is_finished ws v = v.started && (eqb v.players.count 0 && not (may_release ws v v.note))
 
-unfoldable pub asked : Program → Session → SampleVoice → Asked
-asked k s v = let a = ask_answer k s v in record { answer = a; finished = if_done a (is_finished k.words v) false }
+unfoldable pub asked : Program → Session → SampleVoice → Result Bool Refusal
+asked k s v = result_and (ask_answer k s v) (Ok (is_finished k.words v))
 
 -- ---- reset and close: 8 as far as voice and session alone show it
 
 unfoldable pub end_answer : Session → SampleVoice → Answer
-end_answer s v = cond (well_formed s v) Done BadState
+end_answer s v = cond (well_formed s v) done (Err BadState)
 
 abbrev pub none_sounding : Players → Players
 none_sounding ps = record { players = ps.players; count = 0 }

@@ -4,7 +4,7 @@ use Rattle.std.specs.Prelude.{ℕ, Bool, not, List, [], ◌∷◌, length, Float
 use Rattle.session.specs.declared.Session.{Session}
 use Rattle.events.specs.declared.SampleVoice.{SampleVoice}
 use Rattle.block.specs.Inputs.{Lent}
-use Rattle.causes.specs.Tests.{rate_fits, no_place, id_left, parts_fit, lengths_of, well_formed, state_fits, in_time}
+use Rattle.causes.specs.Tests.{rate_fits, no_place, id_left, lent_fits, well_formed, state_fits, in_time}
 use Rattle.voice.specs.Calls.{Program}
 
 abbrev pub first_of : List (Bool × ℕ) → ℕ
@@ -19,7 +19,7 @@ make_number rate s = first_of ((not (rate_fits rate), 5) ∷ (no_place s, 6) ∷
 unfoldable pub block_number : Lent → Session → SampleVoice → ℕ
 block_number l s v =
     first_of
-    ((not (parts_fit l.time.frames l.connected (lengths_of l)), 7)
+    ((not (lent_fits l), 7)
     ∷ (not (state_fits s v l.words l.samples (length l.pcm) (length l.table)), 8)
     ∷ (not (in_time l.time.offset s.event_serial), 9)
     ∷ [])

@@ -1,10 +1,10 @@
 use Rattle.gain.specs.Gain.{pan_matrix}
 use Rattle.gain.proofs.pan_matrix.Goals as goal
 
-pub returns-then-stereo : goal.returns-then-stereo
+pub returns-in-None : goal.returns-in-None
 unfolding pan_matrix
-returns-then-stereo c = rw (c.if-stereo.true, c.sin-c2.ensures.0, c.cos-c1.ensures.0, c.quarter_turn-w.ensures, c.sin-pr.ensures.0, c.cos-pl.ensures.0, c.quarter_turn-p.ensures)
+returns-in-None c = rw (c.in-None.is, c.sin-pr.ensures.0, c.cos-pl.ensures.0, c.quarter_turn-p.ensures)
 
-pub returns : goal.returns
+pub returns-in-Some : goal.returns-in-Some
 unfolding pan_matrix
-returns c = rw (c.if-stereo.false, c.sin-pr.ensures.0, c.cos-pl.ensures.0, c.quarter_turn-p.ensures)
+returns-in-Some c = rw (c.in-Some.is, c.sin-c2.ensures.0, c.cos-c1.ensures.0, c.quarter_turn-turn.ensures, c.sin-pr.ensures.0, c.cos-pl.ensures.0, c.quarter_turn-p.ensures)

@@ -1,11 +1,13 @@
-use mathlib.Core.Path.{◌∙◌}
-use Rattle.players.proofs.Places.{pitch-moves, pitch-stays, pitch-done}
+use mathlib.Core.Path.{ap, ◌∙◌}
+use lib.ListN.{set}
+use Rattle.players.specs.Seats.{retuned}
+use Rattle.players.proofs.Places.{walk-each, walked-all}
 use Rattle.players.proofs.retune_each.Goals as goal
-use Rattle.players.proofs.retune_each.Goals.{then-cold-p, else-cold-p}
 
 pub loop-p-preserved : goal.loop-p-preserved
-loop-p-preserved c = let told = c.set_pitch-cold.ensures in
-    elim c.if-cold-p.branch [ then-cold-p w ↦ w.p-items-is ∙ pitch-moves _ _ _ _ c.loop-p.p-index _ c.loop-p.invariant _ told | else-cold-p w ↦ w.p-items-is ∙ pitch-stays _ _ _ _ c.loop-p.p-index _ c.loop-p.invariant _ told w.if-cold-p.false ]
+loop-p-preserved c = let l = c.loop-p in
+    ap (set l.p-items l.p-index) c.retune_one.ensures ∙ walk-each (retuned c.args.tune.note_f c.args.tune.bend) c.args.players.now l.p-items l.p-index _ l.invariant
 
 pub returns : goal.returns
-returns c = pitch-done _ _ _ _ c.loop-p.p-index c.loop-p.invariant c.loop-p-test.false
+returns c = let l = c.loop-p in
+    walked-all (retuned c.args.tune.note_f c.args.tune.bend) c.args.players.now l.p-items l.p-index l.invariant c.loop-p-test.false

@@ -1,16 +1,20 @@
-use mathlib.Core.Path.{ap, ◌∙◌}
+use mathlib.Core.Path.{refl, ap, ◌∙◌}
+use lib.Seq.{take_all}
 use Rattle.players.specs.Seats.{slots_from, slot_numbers}
-use native.Mathlib.Omega.{arith}
 use Rattle.players.proofs.Kept.{sounding-few}
-use Rattle.players.proofs.Places.{listed-none, listed_more, slots-step, slots-done}
+use Rattle.players.proofs.Places.{slots_next, slots_next-room}
 use Rattle.players.proofs.slots_of.Goals as goal
 
-pub loop-i-init : goal.loop-i-init
-loop-i-init c = (rw c.as_slice-players.ensures (sounding-few c.args.ps), listed-none)
+pub loop-p-init : goal.loop-p-init
+loop-p-init c = (rw c.as_slice-players.ensures (sounding-few c.args.ps.now), refl)
 
-pub loop-i-preserved : goal.loop-i-preserved
-loop-i-preserved c = let g = c.loop-i.invariant in (g.0, listed_more _ _ _ g.1 _ _ (omega arith) (slots-step _ c.loop-i.i _ c.loop-i-test.true))
+pub push_slot-requires : goal.push_slot-requires
+push_slot-requires c = let l = c.loop-p in slots_next-room c.as_slice-players.result.now l.p-index l.slots l.invariant.1 c.loop-p-test.true l.invariant.0
+
+pub loop-p-preserved : goal.loop-p-preserved
+loop-p-preserved c = let l = c.loop-p in
+    (l.invariant.0, c.push_slot.ensures ∙ slots_next c.as_slice-players.result.now l.p-index _ l.slots l.invariant.1 c.loop-p-test.true l.invariant.0)
 
 pub returns : goal.returns
-returns c = let g = c.loop-i.invariant in
-    slots-done _ _ c.loop-i.i g.1 g.0 c.loop-i.auto.i-end c.loop-i-test.false ∙ ap (λ l. slots_from (slot_numbers l)) c.as_slice-players.ensures
+returns c = let l = c.loop-p in
+    l.invariant.1 ∙ ap (λ k. slots_from (slot_numbers k)) (take_all l.p-index _ c.loop-p-test.false ∙ c.as_slice-players.ensures)

@@ -6,4 +6,4 @@ use Rattle.session.proofs.mark_for.Goals as goal
 pub returns : goal.returns
 returns c =
     let e = c.split_at_mut-records.ensures in
-    in-place c.args.s.now _ c.used-n.ensures _ _ e.front_len e.front e.back (start_marks c.args.st) (length-marks c.args.st) _ c.mark_start.ensures
+    in-place c.args.s.now _ c.used-n.ensures _ _ e.front_len e.front e.back (start_marks c.args.st) (length-marks c.args.st) _ c.mark.ensures

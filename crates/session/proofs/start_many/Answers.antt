@@ -13,7 +13,7 @@ loop-st-preserved c =
     let m = c.mark_for.new.s in
     fold_step start_next _ c.as_slice-st-items.result.now c.loop-st.st-index x c.loop-st.invariant no_start _ c.loop-st-test.true
     (elim c.if-count-lt32.branch [
-      | then-count-lt32 w ↦ turn-joins x st m c.mark_for.ensures _ _ _ _ w.if-count-lt32.true w.entry.ensures (w.t-is ∙ w.enter.ensures) w.count-is w.next-is
+      | then-count-lt32 w ↦ turn-joins x st m c.mark_for.ensures _ _ _ _ w.if-count-lt32.true w.entered.ensures (w.t-is ∙ w.push.ensures) w.count-is w.next-is
       | else-count-lt32 w ↦ turn-drops x st m c.mark_for.ensures _ _ _ w.if-count-lt32.false w.t-is w.count-is w.next-is
     ])
 

@@ -6,4 +6,4 @@ use Rattle.events.proofs.start.start_players.Given as goal
 
 abbrev pub invariant-loop-ri : goal.invariant-loop-ri
 invariant-loop-ri l =
-    (carried l.ps l.next l.dropped l.v ≡ foldl (started_voice (record { words = l.words; samples = l.samples }) l.ns l.c) l.v (take l.ri-index l.regions)) × PlayersOk l.ps
+    (carried l.ps l.next l.dropped l.v ≡ foldl (started_voice (record { words = l.k.words.now; samples = l.k.samples.now }) l.x.note l.x.cause) l.v (take l.ri-index l.regions)) × PlayersOk l.ps

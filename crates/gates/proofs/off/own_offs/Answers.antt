@@ -5,10 +5,10 @@ use Rattle.gates.proofs.Turns.{turn_on, turn-over, turn-stop}
 use Rattle.gates.proofs.off.own_offs.Goals as goal
 
 pub loop-init : goal.loop-init
-loop-init c = (omega arith, refl, c.requires.0)
+loop-init c = (omega arith, refl, c.requires)
 
 pub took_own-requires : goal.took_own-requires
-took_own-requires c = (c.loop.invariant.2, c.requires.1, c.requires.2)
+took_own-requires c = c.loop.invariant.2
 
 pub returns-in_default : goal.returns-in_default
 returns-in_default c = (turn-stop _ _ _ _ _ _ c.loop.invariant.1 _ c.took_own.ensures.0 c.in_default.is, c.loop.invariant.2)

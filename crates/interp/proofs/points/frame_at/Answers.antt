@@ -1,9 +1,7 @@
-use Rattle.std.proofs.Common.{arith}
-use Rattle.interp.proofs.Frames.{at-wrapped, none-wrapped}
+use Rattle.interp.proofs.Frames.{got}
 use Rattle.interp.proofs.points.frame_at.Goals as goal
 
-pub returns-then-i-frames : goal.returns-then-i-frames
-returns-then-i-frames c = at-wrapped _ _ _ _ (omega (arith, c.ranges.n.fits)) c.if-i-frames.true c.well_formed.0.1
-
-pub returns-else-i-frames : goal.returns-else-i-frames
-returns-else-i-frames c = none-wrapped _ _ _ (omega arith) (omega (arith, c.ranges.n.fits)) c.if-i-frames.false
+pub returns : goal.returns
+returns c =
+    let l = c.get.ensures.lookup in
+    rw (c.unwrap_or.ensures, c.copied.ensures) (got c.args.frames.now c.args.n c.get.result c.ranges.n.fits c.well_formed.0.1 l.0 l.1)

@@ -8,6 +8,6 @@ use Rattle.interp.proofs.position.fraction.Goals as goal
 pub returns : goal.returns
 unfolding fraction
 returns c = let p = c.args.p in
-    c.narrow_part.ensures
+    c.narrow.ensures
     ∙ ap (λ (w : Float). narrowed (sub binary64 (add binary64 p first) w)) c.whole.ensures
     ∙ ap narrowed (behind p (search rules) c.requires)

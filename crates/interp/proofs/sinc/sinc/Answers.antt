@@ -1,23 +1,24 @@
-use Rattle.std.proofs.Common.{refl, ◌∙◌, arith}
-use borrow.Author.Tests.{lt-leb}
-use Rattle.interp.proofs.Taps.{more_by, last, in_window, outside, none_yet}
-use Rattle.interp.proofs.sinc.sinc.Goals.{then-entries-k-le8192, else-entries-k-le8192}
+use Rattle.std.proofs.Common.{refl, ap, sym, ◌∙◌, arith}
+use Rattle.interp.specs.Places.{tap_place}
+use Rattle.interp.proofs.Table.{placed}
+use Rattle.interp.proofs.Taps.{more_placed, more-none, last, none_yet}
+use Rattle.interp.proofs.sinc.sinc.Goals.{in-Some, in_default}
 use Rattle.interp.proofs.sinc.sinc.Goals as goal
 
 pub loop-k-init : goal.loop-k-init
-loop-k-init g c = (omega arith, λ right. none_yet _ _ _ _ _ _ (c.none-sum.ensures right), c.places.ensures)
+loop-k-init g c = (omega arith, λ right. none_yet _ _ _ _ _ _ (g.met.C.Channels.nothing c.default-sum.result right c.default-sum.ensures))
+
+pub weight-w-requires : goal.weight-w-requires
+weight-w-requires g c = (placed _ c.in-Some.tap (sym c.in-Some.is ∙ c.of.ensures)).1
 
 pub loop-k-preserved : goal.loop-k-preserved
 loop-k-preserved g c =
-    let l = c.loop-k.invariant in
-    let t = c.loop-k-test.true in
-    let p = l.2 in (
+    let l = c.loop-k.invariant in (
       omega arith,
-      λ right. elim c.if-entries-k-le8192.branch [
-        | then-entries-k-le8192 w ↦ more_by _ _ _ _ _ _ _ (l.1 right) _ _ _ _ (in_window _ _ _ _ _ w.if-entries-k-le8192.true _ _ (rw (w.sum-is, w.more-sum.ensures right, w.weight-w.ensures)) (rw (w.wsum-is, w.weight-w.ensures))) (p.entry _ t) (p.part _ t) refl
-        | else-entries-k-le8192 w ↦ rw (w.sum-is, w.wsum-is) (more_by _ _ _ _ _ _ _ (l.1 right) _ _ _ _ (outside _ _ _ _ _ (lt-leb _ _ w.if-entries-k-le8192.false)) (p.entry _ t) (p.part _ t) refl)
+      λ right. elim c.match-of.branch [
+        | in-Some w ↦ rw (w.sum-is, w.wsum-is, w.more-sum.ensures right) (more_placed _ _ _ _ _ _ _ (l.1 right) _ _ w.in-Some.tap (sym w.in-Some.is ∙ c.of.ensures ∙ ap tap_place c.crossings.ensures) w.weight-w.ensures refl)
+        | in_default w ↦ rw (w.sum-is, w.wsum-is) (more-none _ _ _ _ _ _ _ (l.1 right) (sym w.in_default.is ∙ c.of.ensures ∙ ap tap_place c.crossings.ensures))
       ],
-      p,
     )
 
 pub returns : goal.returns

@@ -7,21 +7,21 @@ pub loop-j-init : goal.loop-j-init
 loop-j-init g c =
     let p = c.requires in
     let r = c.put_unless.ensures in
-    (omega arith, omega (arith, p.1.least), λ right. tapped-row _ _ _ _ _ _ _ 0 _ _ _ (r 0 (omega (arith, p.1.least))) (p.3 right) (omega (arith, p.1.least)) c.tap.ensures (c.tapped-s.ensures right) (tapped-none _ _ _ _ _ _ (c.no_sums.ensures right)))
+    (omega arith, omega (arith, p.0.least), λ right. tapped-row _ _ _ _ _ _ _ 0 _ _ _ (r 0 (omega (arith, p.0.least))) (p.2 right) (omega (arith, p.0.least)) c.tap.ensures (c.tapped-s.ensures right) (tapped-none _ _ _ _ _ _ (g.met.C.FourChannels.no_sums c.default.result right c.default.ensures)))
 
 pub tap-requires-in-loop-j : goal.tap-requires-in-loop-j
 tap-requires-in-loop-j g c =
     let p = c.requires in
     let l = c.loop-j.invariant.0 in
     let t = c.loop-j-test.true in
-    (p.0, omega (arith, t, p.1.most), λ e. low-row _ _ _ _ _ p.1 p.2 (omega (arith, l)) (omega (arith, l, t)) (c.put_unless.ensures _ (omega (arith, l, t))))
+    (omega (arith, t, p.0.most), λ e. low-row _ _ _ _ _ p.0 p.1 (omega (arith, l)) (omega (arith, l, t)) (c.put_unless.ensures _ (omega (arith, l, t))))
 
 pub tap-requires-in-loop-j-2 : goal.tap-requires-in-loop-j-2
 tap-requires-in-loop-j-2 g c =
     let p = c.requires in
     let l = c.loop-j.invariant.0 in
     let t = c.loop-j-test.true in
-    (p.0, omega (arith, t, p.1.most), λ e. low-row _ _ _ _ _ p.1 p.2 (omega (arith, l)) (omega (arith, t)) (c.put_unless.ensures _ (omega (arith, t))))
+    (omega (arith, t, p.0.most), λ e. low-row _ _ _ _ _ p.0 p.1 (omega (arith, l)) (omega (arith, t)) (c.put_unless.ensures _ (omega (arith, t))))
 
 pub loop-j-preserved : goal.loop-j-preserved
 loop-j-preserved g c =
@@ -33,8 +33,8 @@ loop-j-preserved g c =
       omega arith,
       omega (arith, u),
       λ right. tapped-at _ _ _ _ _ _ _ _ (omega arith)
-          (tapped-row _ _ _ _ _ _ _ _ _ _ _ (r _ (omega (arith, u))) (p.3 right) (omega (arith, u)) c.tap-in-loop-j-2.ensures (c.tapped-s-in-loop-j.ensures right)
-          (tapped-at _ _ _ _ _ _ _ _ (omega (arith, o)) (tapped-row _ _ _ _ _ _ _ _ _ _ _ (r _ (omega (arith, o, u))) (p.3 right) (omega (arith, o, u)) c.tap-in-loop-j.ensures (c.tapped-q.ensures right) (l.2 right)))),
+          (tapped-row _ _ _ _ _ _ _ _ _ _ _ (r _ (omega (arith, u))) (p.2 right) (omega (arith, u)) c.tap-in-loop-j-2.ensures (c.tapped-s-in-loop-j.ensures right)
+          (tapped-at _ _ _ _ _ _ _ _ (omega (arith, o)) (tapped-row _ _ _ _ _ _ _ _ _ _ _ (r _ (omega (arith, o, u))) (p.2 right) (omega (arith, o, u)) c.tap-in-loop-j.ensures (c.tapped-q.ensures right) (l.2 right)))),
     )
 
 pub returns : goal.returns
@@ -43,4 +43,4 @@ returns g c =
     let r = c.put_unless.ensures in
     let l = c.loop-j.invariant in
     let e = c.loop-j-test.false in
-    (λ right. c.means.ensures right ∙ all-taps _ _ _ _ _ _ (tapped-at _ _ _ _ _ _ _ _ (omega (arith, p.1.least)) (tapped-row _ _ _ _ _ _ _ _ _ _ _ (r _ (omega (arith, p.1.least))) (p.3 right) (omega (arith, p.1.least)) c.tap-2.ensures (c.tapped-t.ensures right) (tapped-at _ _ _ _ _ _ _ _ (omega (arith, l.1, e)) (l.2 right)))), r)
+    (λ right. c.means.ensures right ∙ all-taps _ _ _ _ _ _ (tapped-at _ _ _ _ _ _ _ _ (omega (arith, p.0.least)) (tapped-row _ _ _ _ _ _ _ _ _ _ _ (r _ (omega (arith, p.0.least))) (p.2 right) (omega (arith, p.0.least)) c.tap-2.ensures (c.tapped-t.ensures right) (tapped-at _ _ _ _ _ _ _ _ (omega (arith, l.1, e)) (l.2 right)))), r)

@@ -5,10 +5,10 @@ pub returns-then-s-2 : goal.returns-then-s-2
 unfolding held_step
 returns-then-s-2 c = rw (c.if-s.true, c.if-s-2.true)
 
-pub returns-then-s : goal.returns-then-s
+pub returns-else-s-2 : goal.returns-else-s-2
 unfolding held_step
-returns-then-s c = rw (c.if-s.true, c.if-s-2.false)
+returns-else-s-2 c = rw (c.if-s.true, c.if-s-2.false)
 
-pub returns : goal.returns
+pub returns-else-s : goal.returns-else-s
 unfolding held_step
-returns c = rw c.if-s.false
+returns-else-s c = rw c.if-s.false

@@ -1,20 +1,18 @@
-use mathlib.Core.Path.{sym, ◌∙◌}
-use mathlib.Core.Bool.{true≢false}
-use Rattle.players.proofs.Kept.{sounding-few}
-use Rattle.player_checks.proofs.Looking.{looking-none, looking-on, looking-out, looking-done}
+use mathlib.Core.Bool.{Bool}
+use mathlib.Core.Path.{sym, ap, ◌∙◌}
+use Rattle.std.specs.List.{list_all}
+use Rattle.std.specs.Prelude.{cond, None, Some, ◌&&◌}
+use Rattle.players.specs.Seats.{sounding, slots_from, slot_numbers}
+use Rattle.player_checks.specs.Sound.{player_fits, sample_fits}
+use Rattle.player_checks.proofs.Looking.{all_fit}
 use Rattle.player_checks.proofs.check.players_look.Goals as goal
 
-pub loop-k-init : goal.loop-k-init
-loop-k-init c = (rw c.as_slice-players.ensures (sounding-few c.args.ps), looking-none _ _ _)
-
-pub loop-k-preserved : goal.loop-k-preserved
-loop-k-preserved c = let g = c.loop-k.invariant in (g.0, looking-on _ _ _ c.loop-k.k _ c.loop-k-test.true _ g.1 g.0 (sym c.fits.ensures ∙ c.if-not-fits.false))
-
-pub returns-then-not-fits : goal.returns-then-not-fits
-returns-then-not-fits c =
-    (looking-out _ _ _ c.loop-k.k _ c.loop-k-test.true c.args.ps c.as_slice-players.ensures (sym c.fits.ensures ∙ c.if-not-fits.true), λ e. absurd (true≢false (sym e)))
+pub returns-then-all_pass : goal.returns-then-all_pass
+returns-then-all_pass c = let a = c.args in
+    let told = all_fit a.b a.samples.now a.ps.now ∙ sym (c.all_pass.ensures ∙ ap (list_all (λ p. player_fits a.b p && sample_fits a.samples.now p)) c.as_slice.ensures) ∙ c.if-all_pass.true in
+    ap Some c.slots_of.ensures ∙ sym (ap (λ (t : Bool). cond t (Some (slots_from (slot_numbers (sounding a.ps.now)))) None) told)
 
 pub returns : goal.returns
-returns c = let g = c.loop-k.invariant in
-    let e = looking-done _ _ c.args.ps _ _ _ c.as_slice-players.ensures g.1 g.0 c.loop-k.auto.k-end c.loop-k-test.false in
-    (e.0, λ t. e.1)
+returns c = let a = c.args in
+    let told = all_fit a.b a.samples.now a.ps.now ∙ sym (c.all_pass.ensures ∙ ap (list_all (λ p. player_fits a.b p && sample_fits a.samples.now p)) c.as_slice.ensures) ∙ c.if-all_pass.false in
+    sym (ap (λ (t : Bool). cond t (Some (slots_from (slot_numbers (sounding a.ps.now)))) None) told)

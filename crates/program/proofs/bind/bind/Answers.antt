@@ -10,3 +10,13 @@ overflow_cast-m c = let h = few-samples _ _ (sym c.counts_ok.ensures ∙ c.if-no
 
 pub first_bad_region-requires : goal.first_bad_region-requires
 first_bad_region-requires c = few-parts _ _ (sym c.counts_ok.ensures ∙ c.if-not-counts_ok.false)
+
+pub overflow_cast-result : goal.overflow_cast-result
+overflow_cast-result c =
+    let few = few-regions _ _ (sym c.counts_ok.ensures ∙ c.if-not-counts_ok.false) in
+    let there = c.in-Some.ensures.there in record { fits = omega arith }
+
+pub overflow_cast-result-in-Some-first_bad_sample : goal.overflow_cast-result-in-Some-first_bad_sample
+overflow_cast-result-in-Some-first_bad_sample c =
+    let few = few-samples _ _ (sym c.counts_ok.ensures ∙ c.if-not-counts_ok.false) in
+    let there = c.in-Some-first_bad_sample.ensures.there in record { fits = omega arith }

@@ -1,17 +1,25 @@
-use Rattle.std.proofs.Common.{rules, tests, ◌≡◌, ◌&&◌, not, find, refl, sym, ◌∙◌, arith}
-use Rattle.std.specs.List.{range_with_len}
-use Rattle.std.proofs.lemmas.Iterator.{YieldsList-from_range}
-use Rattle.std.proofs.lemmas.Iterator.Search.{find_from_yields_List}
-use Rattle.program.specs.Bind.{counts_in, region_in}
-use Rattle.program.proofs.Lookups.{same-option}
+use Rattle.std.proofs.Common.{rules, tests, ◌≡◌, ◌/◌, not, ◌&&◌, length, List, ℕ, Bool, ◌∙◌}
+use Rattle.std.specs.List.{position, range_with_len}
+use Rattle.std.specs.Simd.{first_chunks}
+use Rattle.std.proofs.lemmas.Iterator.{YieldsList-from_slice}
+use Rattle.std.proofs.lemmas.Iterator.Search.{position_from_yields_List}
+use Rattle.program.specs.Valid.{every, counts_tests, valid_region}
+use Rattle.program.specs.Bind.{region_count, counts_in, region_in}
 use Rattle.program.proofs.Binding.{find-both}
+use Rattle.program.proofs.Parts.{first-region, inside}
+use Rattle.program.proofs.Words.{parts-length}
 use Rattle.program.proofs.bind.first_bad_region.Goals as goal
 
 pub returns : goal.returns
 returns c =
-    let a = c.args in
-    let q = counts_in a.words.now in
-    let p = region_in a.words.now a.m in
-    let e : c.find.result ≡ find (λ i. not (q i && p i)) (range_with_len 0 a.n) =
-    sym (same-option c.find.result) ∙ find_from_yields_List (λ i. not (q i && p i)) _ _ c.find.result c.find.ensures.ran (YieldsList-from_range 0 a.n a.n refl (omega arith)) (λ x b q k. search (rules, tests)) in
-    e ∙ find-both q p (range_with_len 0 a.n) c.requires
+    let ws = c.args.words.now in
+    let m = c.args.m in
+    let n = length ws / 392 in
+    let parts = first_chunks 392 n ws in
+    let bad = λ (r : List ℕ). not (every (counts_tests r) && valid_region m r) in
+    let e : c.position.result ≡ position bad parts =
+    position_from_yields_List bad _ _ c.position.result c.position.ensures.ran (YieldsList-from_slice parts (search rules)) (λ x b q k. search (rules, tests)) in
+    record {
+      first = e ∙ first-region bad ws ∙ find-both (counts_in ws) (region_in ws m) (range_with_len 0 (region_count ws)) c.requires;
+      there = inside bad parts n c.position.result (parts-length 392 n ws) e;
+    }

@@ -1,5 +1,5 @@
 use Rattle.std.proofs.Common.{sym, ◌∙◌}
-use Rattle.program.proofs.Binding.{wrong-sizes, wrong-counts, counted, wrong-region, last-test}
+use Rattle.program.proofs.Binding.{wrong-sizes, wrong-counts, few-parts, wrong-region, last-test}
 use Rattle.program.proofs.bind.program_ok.Goals as goal
 
 pub returns-then-not-sizes_ok : goal.returns-then-not-sizes_ok
@@ -11,9 +11,7 @@ returns-then-not-counts_ok c =
     wrong-counts a.b a.words.now a.samples.now a.frames a.table (sym c.sizes_ok.ensures ∙ c.if-not-sizes_ok.false) (sym c.counts_ok.ensures ∙ c.if-not-counts_ok.true)
 
 pub regions_ok-requires : goal.regions_ok-requires
-regions_ok-requires c =
-    let a = c.args in
-    counted a.b a.words.now a.samples.now a.frames a.table (sym c.sizes_ok.ensures ∙ c.if-not-sizes_ok.false) (sym c.counts_ok.ensures ∙ c.if-not-counts_ok.false)
+regions_ok-requires c = few-parts _ _ (sym c.counts_ok.ensures ∙ c.if-not-counts_ok.false)
 
 pub returns-then-regions_ok : goal.returns-then-regions_ok
 returns-then-regions_ok c =

@@ -1,17 +1,10 @@
 use lib.Ieee.{nan}
 use Rattle.exact.specs.Single.{f0}
-use native.Mathlib.Omega.{arith}
 use Rattle.interp.proofs.Frames.{get_d_any}
 use Rattle.segments.proofs.plain.second_at.Goals as goal
 
-pub offset_bounds-b-q : goal.offset_bounds-b-q
-offset_bounds-b-q c = omega (arith, c.requires c.if-stereo.true)
+pub returns-in-Some : goal.returns-in-Some
+returns-in-Some c = let h = rw c.in-Some.is at c.requires in rw c.in-Some.is (get_d_any c.in-Some.b.now c.args.q nan f0 h)
 
-pub bounds-b-q : goal.bounds-b-q
-bounds-b-q c = omega (arith, c.requires c.if-stereo.true)
-
-pub returns-then-stereo : goal.returns-then-stereo
-returns-then-stereo c = rw c.if-stereo.true (get_d_any c.args.b.now c.args.q nan f0 (c.requires c.if-stereo.true))
-
-pub returns-else-stereo : goal.returns-else-stereo
-returns-else-stereo c = rw c.if-stereo.false
+pub returns-in-None : goal.returns-in-None
+returns-in-None c = rw c.in-None.is

@@ -1,4 +1,3 @@
-use native.Mathlib.Nat.{lt_irrefl}
 use native.Mathlib.Omega.{arith}
 use Prim.Native.Nat.{◌^◌}
 use lib.Dec.{le→leb}
@@ -12,7 +11,4 @@ unfolding in_float
 int_to_float-f c = le→leb c.frame_index-f.result (2 ^ 53) (omega (arith, c.frame_index-f.ensures.1))
 
 pub returns-then-pos-f : goal.returns-then-pos-f
-returns-then-pos-f c = (c.frame_index-f.ensures.1, λ z. is-double _ _ (search rules) z c.frame_index-f.ensures.1 c.if-pos-f.true)
-
-pub returns : goal.returns
-returns c = (omega arith, λ z. absurd (lt_irrefl 0 z))
+returns-then-pos-f c = (omega arith, c.frame_index-f.ensures.1, is-double _ _ (search rules) (omega arith) c.frame_index-f.ensures.1 c.if-pos-f.true)

@@ -1,10 +1,7 @@
 use Rattle.segments.specs.Segment.{frame_after}
 use Rattle.segments.proofs.segment.frame_after.Goals as goal
-
-pub returns-then-ends_now : goal.returns-then-ends_now
-unfolding frame_after
-returns-then-ends_now c = rw (← c.ends_now.ensures, c.if-ends_now.true, ← c.fast_off.ensures)
+use Rattle.segments.proofs.segment.frame_after.Goals.{then-ends_now, else-ends_now}
 
 pub returns : goal.returns
 unfolding frame_after
-returns c = rw (← c.ends_now.ensures, c.if-ends_now.false)
+returns c = elim c.if-ends_now.branch [ then-ends_now w ↦ rw (w.hot-is, w.fast_off-hot.ensures, ← c.ends_now.ensures, w.if-ends_now.true) | else-ends_now w ↦ rw (w.hot-is, ← c.ends_now.ensures, w.if-ends_now.false) ]

@@ -12,10 +12,10 @@ use Rattle.segments.proofs.segment.next_frame.Goals as goal
 
 pub returns-then-done : goal.returns-then-done
 unfolding frame_next
-returns-then-done c = (rw (← c.next-s.ensures, ← c.done.ensures, c.if-done.true), c.requires.1)
+returns-then-done c = let h : SFits w64 c.args.hot.data_delay = search rules in (rw (← c.next-s.ensures, ← c.done.ensures, c.if-done.true, to_z-of_z h), c.requires.1)
 
-pub overflow_sub-h : goal.overflow_sub-h
-overflow_sub-h c = let h : SFits w64 c.args.hot.data_delay = search rules in lower-bits _ h c.if-d-gt0.true
+pub overflow_sub-result : goal.overflow_sub-result
+overflow_sub-result c = let h : SFits w64 c.args.hot.data_delay = search rules in lower-bits _ h c.if-d-gt0.true
 
 pub returns-then-d-gt0 : goal.returns-then-d-gt0
 unfolding frame_next
@@ -23,4 +23,4 @@ returns-then-d-gt0 c = let h : SFits w64 c.args.hot.data_delay = search rules in
 
 pub returns : goal.returns
 unfolding frame_next
-returns c = let h : SFits w64 c.args.hot.data_delay = search rules in let t = rw (to_z-of_z h) at c.if-d-gt0.false in (rw (c.frame_after.ensures, c.read-v.ensures.0, ← c.next-s.ensures, ← c.done.ensures, c.if-done.false, t), subst (λ (f : Frame). Position f.hot.pos) (sym c.frame_after.ensures) (frame-position _ _ _ c.read-v.ensures.1))
+returns c = let h : SFits w64 c.args.hot.data_delay = search rules in let t = rw (to_z-of_z h) at c.if-d-gt0.false in (rw (c.frame_after.ensures, c.read-v.ensures.0, to_z-of_z h, ← c.next-s.ensures, ← c.done.ensures, c.if-done.false, t), subst (λ (f : Frame). Position f.hot.pos) (sym c.frame_after.ensures) (frame-position _ _ _ c.read-v.ensures.1))

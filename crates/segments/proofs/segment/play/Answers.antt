@@ -3,7 +3,7 @@ use Rattle.segments.proofs.Runs.{of-run}
 use Rattle.segments.proofs.segment.play.Goals as goal
 
 pub frames-h-requires : goal.frames-h-requires
-frames-h-requires c = let p = c.requires in (p.0.cold, p.0.stages, p.0.position, p.1, p.2)
+frames-h-requires c = let p = c.requires in (p.0.cold, p.0.stages, p.0.position, p.1)
 
 pub returns : goal.returns
 unfolding played_by

@@ -1,3 +1,5 @@
+use mathlib.Core.Path.{sym, subst}
+use lib.Dec.{T}
 use Rattle.segments.specs.Source.{frame_of}
 use borrow.Author.Rules.{rules}
 use Rattle.segments.proofs.source.frame.Goals as goal
@@ -6,10 +8,9 @@ pub returns-then-stored : goal.returns-then-stored
 unfolding frame_of
 returns-then-stored c = rw c.if-stored.true c.stored_frame.ensures
 
-pub returns-then-known : goal.returns-then-known
+pub returns-then-k-p : goal.returns-then-k-p
 unfolding frame_of
-returns-then-known c = let k = c.known.ensures c.if-known.true in
-    rw (c.if-stored.false, k.0) (c.requires.4.pairs c.args.i c.requires.3 c.args.p c.requires.0 (search rules) k.1)
+returns-then-k-p c = let h = rw c.in-Some.is at c.requires.2 in rw c.if-stored.false (h c.args.p c.requires.0 (search rules) (subst T (sym c.if-k-p.true) tt))
 
 pub returns : goal.returns
 unfolding frame_of

@@ -1,7 +1,6 @@
 use mathlib.Core.Path.{◌≡◌, refl, sym}
 use mathlib.Core.Bool.{Bool, true, false, ◌&&◌}
 use native.Mathlib.Omega.{arith}
-use borrow.Author.Tests.{lt-ltb, le-ltb}
 use lib.Ieee.{le}
 use Rattle.interp.specs.Position.{double, floored}
 use Rattle.interp.proofs.Looping.{floor-below}
@@ -13,19 +12,15 @@ no-right : (a b : Bool) → b ≡ false → false ≡ a && b
 no-right true b e = sym e
 no-right false b e = refl
 
-pub returns-then-idx-l : goal.returns-then-idx-l
+pub returns-then-idx-start : goal.returns-then-idx-start
 unfolding in_fade
-returns-then-idx-l c = rw (← c.floor-idx.ensures, lt-ltb _ _ c.if-l-gt0.true, c.if-idx-l.true)
+returns-then-idx-start c = rw (← c.floor-idx.ensures, c.if-idx-start.true)
 
-pub returns-else-idx-l : goal.returns-else-idx-l
+pub returns-else-idx-start : goal.returns-else-idx-start
 unfolding in_fade
-returns-else-idx-l c = rw (← c.floor-idx.ensures, lt-ltb _ _ c.if-l-gt0.true, c.if-idx-l.false)
+returns-else-idx-start c = rw (← c.floor-idx.ensures, c.if-idx-start.false)
 
-pub returns-else-p-l : goal.returns-else-p-l
+pub returns : goal.returns
 unfolding in_fade
-returns-else-p-l c = let x = c.args in
-    rw (lt-ltb _ _ c.if-l-gt0.true) (no-right (le (double x.l.start) (floored x.p)) (le (double x.l.xf_out_start) (floored x.p)) (floor-below x.l.xf_out_start x.p c.requires (search rules) (omega arith) c.if-p-l.false))
-
-pub returns-else-l-gt0 : goal.returns-else-l-gt0
-unfolding in_fade
-returns-else-l-gt0 c = rw (le-ltb _ _ c.if-l-gt0.false)
+returns c = let x = c.args in
+    no-right (le (double x.start) (floored x.p)) (le (double x.f.start) (floored x.p)) (floor-below x.f.start x.p c.requires (search rules) (omega arith) c.if-p-f.false)

@@ -1,3 +1,4 @@
+use Rattle.std.proofs.Common.{inl, inr}
 use Rattle.segments.specs.Source.{current_loop}
 use Rattle.segments.proofs.source.looping.Goals as goal
 
@@ -7,11 +8,7 @@ returns-then-released c = let a = c.args in rw (c.in-Sustain.is, ← c.released.
 
 pub returns-in-NoLoop : goal.returns-in-NoLoop
 unfolding current_loop
-returns-in-NoLoop c = rw c.in-NoLoop.is
-
-pub returns-in-OneShot : goal.returns-in-OneShot
-unfolding current_loop
-returns-in-OneShot c = rw c.in-OneShot.is
+returns-in-NoLoop c = elim c.in-NoLoop.is [ inl e ↦ rw e | inr e ↦ rw e ]
 
 pub returns-in-Continuous : goal.returns-in-Continuous
 unfolding current_loop

@@ -22,7 +22,7 @@ put-requires g c = let p = c.requires in
     let y1 = c.near-2 in
     let y2 = c.near-3 in
     let y3 = c.near-4 in
-    (omega (arith, p.2, p.0.most), record { x0 = place-fits _ _ y0.result y0.ensures; x1 = place-fits _ _ y1.result y1.ensures; x2 = place-fits _ _ y2.result y2.ensures; x3 = place-fits _ _ y3.result y3.ensures })
+    (omega (arith, p.2, p.0.most), record { x0 = place-fits _ _ y0.ensures; x1 = place-fits _ _ y1.ensures; x2 = place-fits _ _ y2.ensures; x3 = place-fits _ _ y3.ensures })
 
 pub returns : goal.returns
 returns g c = let p = c.requires in

@@ -1,7 +1,0 @@
-use lib.Ieee.{of_bits}
-use borrow.Author.Rules.{rules}
-use Rattle.players.proofs.no_env.Goals as goal
-
-pub returns : goal.returns
-unfolding of_bits
-returns c = search rules
