@@ -158,7 +158,7 @@ impl Note {
         let mut v = SampleVoice::new(l.prog.clone());
         v.init(&ProcessContext::new(self.sr, 128));
         let kind = [Interp::Linear, Interp::Hermite, Interp::Sinc][self.kind as usize];
-        v.start_pub(self.ri, self.note, self.vel, self.note_f, self.seed, kind, self.serial as u64, self.on_note, if self.on_note { 0.0 } else { self.held });
+        v.start_pub(self.ri, self.note, self.vel, self.note_f, self.seed, kind, self.serial as u64, self.on_note, self.held);
         v
     }
 }

@@ -42,10 +42,12 @@ fn put_group(
     w[count] = n.min(6) + 1;
 }
 
-fn region_words(line: &[u8]) -> [u32; REGION_WORDS] {
+// Out of line, so that its words are cleared for a region and not for each line.
+#[inline(never)]
+fn add_region<const N: usize>(store: &mut Store<N>, line: &[u8]) {
     let mut w = [0; REGION_WORDS];
     put_part(line, Part::Region, &mut w);
-    w
+    store.add_region(w);
 }
 
 // ---- samples
@@ -90,7 +92,7 @@ pub fn add<const N: usize>(store: &mut Store<N>, d: Line, line: &[u8]) -> Option
     match d {
         Line::Entry { index, value } => put(&mut store.table, index as usize, value),
         Line::Sample(s) => add_sample(store, s)?,
-        Line::Part(Part::Region) => store.add_region(region_words(line)),
+        Line::Part(Part::Region) => add_region(store, line),
         Line::Point { velocity, gain } => put_point(store.regions.last_mut()?, velocity, gain),
         Line::Part(Part::Filter) => {
             put_group(line, Part::Filter, store.regions.last_mut()?, 27, 58, 7)

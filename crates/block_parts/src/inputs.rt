@@ -13,6 +13,13 @@ impl Held {
         Held { frames: [None; 7] }
     }
 
+    // None is connected.
+    pub fn forget(&mut self) {
+        for frames in &mut self.frames {
+            *frames = None;
+        }
+    }
+
     // From the frame to the last an input has the value. Before it, one that was disconnected has zeros.
     pub fn set(&mut self, input: Input, set: Option<Set>) {
         if let Some(held) = self.frames.get_mut(input as usize) {

@@ -1,53 +1,59 @@
 // What is printed after a step.
 use events::SampleVoice;
-use exact::order::bits_f32;
-use lister::show::{Totals, put_records};
+use lister::show::{put_records, put_totals};
 use lister::text::Text;
 use session::Session;
-use std::fmt;
 
-// A comma and the bits of each single.
-#[derive(Drop)]
-struct Singles<'a>(&'a [f32]);
-
-impl fmt::Display for Singles<'_> {
-    fn fmt<W: fmt::Write>(&self, f: &mut fmt::Formatter<W>) -> fmt::Result {
-        for x in self.0 {
-            write!(f, ",{:08X}", bits_f32(*x))?;
-        }
-        Ok(())
+// The singles of one output.
+fn put_output(text: &mut Text, letter: u8, step: u64, frames: &[f32]) {
+    text.begin(letter);
+    text.number(step);
+    for x in frames {
+        text.single(*x);
     }
+    text.end();
 }
 
 // Both outputs of a block.
 pub fn put_outputs(text: &mut Text, step: u64, left: &[f32], right: &[f32]) {
-    text.line(format_args!("L,{step}{}", Singles(left)));
-    text.line(format_args!("R,{step}{}", Singles(right)));
+    put_output(text, b'L', step, left);
+    put_output(text, b'R', step, right);
 }
 
 pub fn put_answer(text: &mut Text, step: u64, finished: bool) {
-    text.line(format_args!("A,{step},{}", finished as u8));
+    text.begin(b'A');
+    text.number(step);
+    text.flag(finished);
+    text.end();
 }
 
 // The list and the totals.
 pub fn put_state(text: &mut Text, step: u64, session: &Session) {
     put_records(text, session, step);
-    let totals = Totals { step, session };
-    text.line(format_args!("{totals},{}", session.event_serial));
+    put_totals(text, session, step);
+    text.number(session.event_serial);
+    text.end();
 }
 
 pub fn put_voice(text: &mut Text, step: u64, v: &SampleVoice) {
-    let players = v.players.count;
-    text.line(format_args!(
-        "V,{step},{},{players},{},{}",
-        v.voice, v.dropped, v.next_slot
-    ));
+    text.begin(b'V');
+    text.number(step);
+    text.number(v.voice);
+    text.number(v.players.count as u64);
+    text.number(v.dropped as u64);
+    text.number(v.next_slot as u64);
+    text.end();
 }
 
 // Counter and flag of each region.
 pub fn put_sequences(text: &mut Text, step: u64, s: &Session, regions: usize) {
     let pairs = s.seq.seq_counter.iter().zip(&s.seq.seq_on);
     for (region, (counter, on)) in pairs.take(regions).enumerate() {
-        text.line(format_args!("Q,{step},{region},{counter},{}", *on as u8));
+        text.begin(b'Q');
+        text.number(step);
+        text.number(region as u64);
+        text.number(*counter as u64);
+        text.flag(*on);
+        text.end();
     }
 }

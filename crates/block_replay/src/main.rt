@@ -2,9 +2,8 @@
 // can be held to what the Rust printed (docs/COMPARISON.md).
 #![tactic(auto)]
 
-use block_script::perform::perform;
-use lister::feed::replay;
+use block_script::perform::replay;
 
 fn main() {
-    replay(perform);
+    replay();
 }

@@ -17,9 +17,10 @@ use std::fmt;
 // The most frames that all samples have together.
 const FRAMES: usize = 65536;
 
+// It is lent what is large: made within it and moved, a megabyte more would be copied.
 #[derive(Drop)]
-struct Blocks {
-    live: Live<FRAMES>,
+struct Blocks<'a> {
+    live: &'a mut Live<FRAMES>,
     inputs: Held,
 }
 
@@ -43,22 +44,15 @@ impl fmt::Display for Named {
     }
 }
 
-impl Blocks {
-    // A call of its own, so that what it copies while it is made takes no room on the stack later.
-    #[inline(never)]
-    fn new() -> Blocks {
-        Blocks {
-            live: Live::new(),
-            inputs: Held::new(),
-        }
-    }
-
+impl<'a> Blocks<'a> {
     // What a step left of the session and of its voice.
     fn show(&self, text: &mut Text, v: &SampleVoice) {
         put_state(text, self.live.step, &self.live.session);
         put_voice(text, self.live.step, v);
     }
 
+    // Out of line, as `Live`'s calls are.
+    #[inline(never)]
     fn play(&mut self, text: &mut Text, b: PlayLine) -> Result<(), Refusal> {
         let mut left = [0.0; 128];
         let mut right = [0.0; 128];
@@ -77,6 +71,13 @@ impl Blocks {
         Ok(())
     }
 
+    #[inline(never)]
+    fn reset(&mut self, text: &mut Text, id: u64) -> Result<(), Refusal> {
+        let v = self.live.reset(id)?;
+        self.show(text, &v);
+        Ok(())
+    }
+
     // Does what a line asks for, and prints what that leaves.
     fn step(&mut self, text: &mut Text, d: Line, line: &[u8]) -> Result<(), Refusal> {
         match d {
@@ -86,10 +87,7 @@ impl Blocks {
                 let finished = self.live.ask(id)?;
                 put_answer(text, self.live.step, finished);
             }
-            Line::Reset(id) => {
-                let v = self.live.reset(id)?;
-                self.show(text, &v);
-            }
+            Line::Reset(id) => self.reset(text, id)?,
             Line::Close(id) => {
                 self.live.close(id)?;
                 put_state(text, self.live.step, &self.live.session);
@@ -101,7 +99,7 @@ impl Blocks {
     }
 }
 
-impl Script for Blocks {
+impl<'a> Script for Blocks<'a> {
     type Refusal = Named;
 
     fn take(&mut self, text: &mut Text, number: u64, line: &[u8]) -> Result<(), Named> {
@@ -113,10 +111,30 @@ impl Script for Blocks {
         }
         Ok(())
     }
+
+    fn forget(&mut self) {
+        self.live.forget();
+        self.inputs.forget();
+    }
 }
 
 // One script from a fresh session.
 pub fn perform(feed: &mut Feed) {
-    let mut blocks = Blocks::new();
-    script::perform(feed, &mut blocks);
+    let mut text = Text::new();
+    let mut live = Live::new();
+    let mut blocks = Blocks {
+        live: &mut live,
+        inputs: Held::new(),
+    };
+    script::perform(feed, &mut text, &mut blocks);
+}
+
+// Many scripts, each from a fresh session.
+pub fn replay() {
+    let mut live = Live::new();
+    let mut blocks = Blocks {
+        live: &mut live,
+        inputs: Held::new(),
+    };
+    script::replay(&mut blocks);
 }

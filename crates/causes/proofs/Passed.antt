@@ -1,5 +1,5 @@
 -- What the tests 7 to 9 leave to the block: they pass, and all that the block leans on holds. Assumes nothing.
-use Rattle.std.specs.Prelude.{Option, Some, None}
+use Rattle.std.specs.Prelude.{Option, Some, None, option_map}
 use Prim.Native.Nat.{ℕ, ◌+◌, ◌-◌, ◌*◌, ◌/◌, ◌^◌, ◌<◌, ◌≤◌}
 use mathlib.Core.Path.{◌≡◌, refl, sym, ap, subst, ◌∙◌}
 use mathlib.Core.Bool.{Bool, true, false, not, ◌&&◌, ◌||◌, cond, true≢false}
@@ -24,9 +24,10 @@ use Rattle.player_checks.proofs.Fits.{fit-ok}
 use Rattle.session.specs.declared.Session.{Session}
 use Rattle.events.specs.Voice.{Bindable}
 use Rattle.events.specs.declared.SampleVoice.{SampleVoice}
-use Rattle.block.specs.Inputs.{Lent}
+use Rattle.block.specs.Inputs.{Lent, Signals}
 use Rattle.block.specs.Ready.{VoiceOk, Covers, Ready}
-use Rattle.causes.specs.Tests.{is_short, fit_tests, parts_fit, lent_fits, form_tests, well_formed, program_fits, in_time, state_fits}
+use Rattle.causes.specs.declared.Lengths.{Lengths}
+use Rattle.causes.specs.Tests.{is_short, falls_short, lengths_fit, fit_tests, parts_fit, lent_fits, form_tests, well_formed, program_fits, in_time, state_fits}
 
 true-is : (t : Bool) → t ≡ true → T t
 true-is true e = tt
@@ -108,6 +109,31 @@ none_short false false false false true f g = refl
 none_short false false false false false true g = refl
 none_short false false false false false false true = refl
 none_short false false false false false false false = refl
+
+-- an input is short where its length is
+short_is : (o : Option (List Float)) (n : ℕ) → falls_short (option_map length o) n ≡ is_short o n
+short_is None n = refl
+short_is (Some xs) n = refl
+
+add : (o : Option (List Float)) (n : ℕ) (k : Option ℕ) {ts us : List Bool} → k ≡ option_map length o → ts ≡ us
+    → not (falls_short k n) ∷ ts ≡ not (is_short o n) ∷ us
+add o n k {ts} {us} e f =
+    ap (λ (m : Option ℕ). not (falls_short m n) ∷ ts) e ∙ (ap (λ (t : Bool). not t ∷ ts) (short_is o n) ∙ ap (λ (us : List Bool). not (is_short o n) ∷ us) f)
+
+-- what the inputs' lengths tell is what the inputs tell
+pub same_fit : (n : ℕ) (x : Signals) (y : Lengths)
+    → y.freq ≡ option_map length x.freq
+    → y.gate ≡ option_map length x.gate
+    → y.vel ≡ option_map length x.vel
+    → y.amp ≡ option_map length x.amp
+    → y.seed ≡ option_map length x.seed
+    → y.bend ≡ option_map length x.bend
+    → y.quality ≡ option_map length x.quality
+    → lengths_fit n y ≡ parts_fit n x y.left y.right
+unfolding lengths_fit parts_fit
+same_fit n x y a b c d e f g =
+    ap (λ (ts : List Bool). every (not (eqb n 0) ∷ leb n 128 ∷ leb n y.left ∷ leb n y.right ∷ ts))
+    (add x.freq n y.freq a (add x.gate n y.gate b (add x.vel n y.vel c (add x.amp n y.amp d (add x.seed n y.seed e (add x.bend n y.bend f (add x.quality n y.quality {ts = []} g refl)))))))
 
 pub connected-fits : (x : Option (List Float)) (n : ℕ) → not (is_short x n) ≡ true → Covers x n
 connected-fits None n e = tt

@@ -11,6 +11,7 @@ use Rattle.session.specs.Tests.{is_live, over_live, twice_live, stray_record, ov
 use Rattle.session.specs.declared.Session.{Session}
 use Rattle.events.specs.declared.SampleVoice.{SampleVoice}
 use Rattle.block.specs.Inputs.{Signals, Lent}
+use Rattle.causes.specs.declared.Lengths.{Lengths}
 
 -- 5: a voice rate not within 8,000 to 192,000
 unfoldable pub rate_fits : Float → Bool
@@ -33,6 +34,21 @@ fit_tests n x left right =
 -- 7: a block of 1 to 128 frames, and no lent part shorter than it
 unfoldable pub parts_fit : ℕ → Signals → ℕ → ℕ → Bool
 parts_fit n x left right = every (fit_tests n x left right)
+
+-- the same of lengths alone: an input's is none where it is not connected
+abbrev pub falls_short : Option ℕ → ℕ → Bool
+falls_short None frames = false
+falls_short (Some k) frames = ltb k frames
+
+abbrev pub length_tests : ℕ → Lengths → List Bool
+length_tests n x =
+    not (eqb n 0) ∷ leb n 128 ∷ leb n x.left ∷ leb n x.right ∷ not (falls_short x.freq n) ∷ not (falls_short x.gate n)
+    ∷ not (falls_short x.vel n) ∷ not (falls_short x.amp n) ∷ not (falls_short x.seed n) ∷ not (falls_short x.bend n)
+    ∷ not (falls_short x.quality n) ∷ []
+
+-- 7: a block of 1 to 128 frames, and no length below it
+unfoldable pub lengths_fit : ℕ → Lengths → Bool
+lengths_fit n x = every (length_tests n x)
 
 abbrev pub lent_fits : Lent → Bool
 lent_fits l = parts_fit l.time.frames l.inputs (length l.left) (length l.right)

@@ -1,12 +1,13 @@
 // 01's causes to turn a call back, each by itself: 5, 7, 8 and 9. Each is a bool and not a `Result`, since the definitions list several
 // tests under one number and ask that every one holds.
-ghost use Rattle.std.specs.Prelude.{◌≡◌};
+ghost use Rattle.std.specs.Prelude.{◌≡◌, length, option_map};
 ghost use Rattle.std.specs.List.{list_any};
 ghost use Rattle.std.specs.Option.{option_copied};
 ghost use Rattle.block.specs.Inputs.{signals_of};
 ghost use Rattle.program.specs.Valid.{every};
-ghost use Rattle.causes.specs.Tests.{rate_fits, is_short, parts_fit, over_players, live_tests, session_tests, voice_tests, well_formed, program_fits, state_fits, in_time};
+ghost use Rattle.causes.specs.Tests.{rate_fits, falls_short, lengths_fit, parts_fit, over_players, live_tests, session_tests, voice_tests, well_formed, program_fits, state_fits, in_time};
 
+use super::Lengths;
 use super::tally::others_fit;
 use block::inputs::Inputs;
 use events::SampleVoice;
@@ -26,23 +27,23 @@ pub fn rate_fits(rate: f32) -> bool
     8000.0 <= rate && rate <= 192000.0
 }
 
-// 7: a connected input shorter than the block.
-fn is_short(input: Option<&[f32]>, frames: usize) -> bool
-    ensures { result ≡ is_short (option_copied input.entry) frames }
+// 7: a connected input's length below the block's.
+fn is_short(length: Option<usize>, frames: usize) -> bool
+    ensures { result ≡ falls_short length frames }
 {
-    input.is_some_and(|xs| xs.len() < frames)
+    length.is_some_and(|n| n < frames)
 }
 
-// 7: one of the connected inputs is shorter than the block.
-fn any_short(inputs: &[Option<&[f32]>], frames: usize) -> bool
-    ensures { result ≡ list_any (λ x. is_short (option_copied x) frames) inputs.entry.now }
+// 7: one of the connected inputs' lengths is below the block's.
+fn any_short(lengths: &[Option<usize>], frames: usize) -> bool
+    ensures { result ≡ list_any (λ x. falls_short x frames) lengths.now }
 {
-    inputs.iter().any(|input| is_short(*input, frames))
+    lengths.iter().any(|length| is_short(*length, frames))
 }
 
-// 7: a block of 1 to 128 frames, and no lent part shorter than it.
-pub fn parts_fit(frames: usize, inputs: Inputs<'_>, left: usize, right: usize) -> bool
-    ensures { result ≡ parts_fit frames (signals_of inputs.entry) left right }
+// 7: a block of 1 to 128 frames, and no length below it.
+pub fn lengths_fit(frames: usize, x: Lengths) -> bool
+    ensures { result ≡ lengths_fit frames x }
 {
     if frames == 0 {
         return false;
@@ -50,16 +51,42 @@ pub fn parts_fit(frames: usize, inputs: Inputs<'_>, left: usize, right: usize) -
     if 128 < frames {
         return false;
     }
-    if left < frames {
+    if x.left < frames {
         return false;
     }
-    if right < frames {
+    if x.right < frames {
         return false;
     }
-    let i = inputs;
     !any_short(
-        &[i.freq, i.gate, i.vel, i.amp, i.seed, i.bend, i.quality],
+        &[x.freq, x.gate, x.vel, x.amp, x.seed, x.bend, x.quality],
         frames,
+    )
+}
+
+// The length of a connected input.
+fn length_of(input: Option<&[f32]>) -> Option<usize>
+    ensures { result ≡ option_map length (option_copied input.entry) }
+{
+    input.map(|xs| xs.len())
+}
+
+// 7: a block of 1 to 128 frames, and no lent part shorter than it.
+pub fn parts_fit(frames: usize, inputs: Inputs<'_>, left: usize, right: usize) -> bool
+    ensures { result ≡ parts_fit frames (signals_of inputs.entry) left right }
+{
+    lengths_fit(
+        frames,
+        Lengths {
+            freq: length_of(inputs.freq),
+            gate: length_of(inputs.gate),
+            vel: length_of(inputs.vel),
+            amp: length_of(inputs.amp),
+            seed: length_of(inputs.seed),
+            bend: length_of(inputs.bend),
+            quality: length_of(inputs.quality),
+            left,
+            right,
+        },
     )
 }
 

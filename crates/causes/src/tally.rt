@@ -32,7 +32,7 @@ fn is_amiss(r: PlayerRecord, regions: Option<u32>, own: Option<u64>) -> bool
 
 // Every record is a live voice's, none of them has more than 32, and none is amiss: one walk, with a count for each live voice. The counts
 // stand apart from the ids, which are read where the session has them: an array of pairs would copy all sixteen for each block.
-pub(super) fn others_fit(s: &Session, regions: Option<u32>, own: Option<u64>) -> bool
+pub fn others_fit(s: &Session, regions: Option<u32>, own: Option<u64>) -> bool
     ensures { result ≡ others_fit regions own s.now }
 {
     let ids = &s.voices.ids[..used::<16>(s.voices.count)];

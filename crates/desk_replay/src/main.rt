@@ -2,9 +2,8 @@
 // can be held to what the Rust printed (docs/COMPARISON.md).
 #![tactic(auto)]
 
-use desk_script::perform::perform;
-use lister::feed::replay;
+use desk_script::perform::replay;
 
 fn main() {
-    replay(perform);
+    replay();
 }

@@ -1,5 +1,7 @@
--- The words of a region, as binding is lent them: docs/PROGRAM.md's tables. Definitions only.
-use Rattle.std.specs.Prelude.{ℕ, ◌+◌, List, cond, slice_set, Option, is_some, option_map, unwrap_or}
+-- The words of a region and of a sample, as binding is lent them: docs/PROGRAM.md's tables. Definitions only.
+use Rattle.std.specs.Prelude.{ℕ, ◌+◌, List, pos, cond, slice_set, to_bits, Option, is_some, option_map, unwrap_or}
+use Rattle.std.specs.Float.{binary32}
+use Rattle.std.specs.Float.Ieee.{of_int}
 use Rattle.lines.specs.declared.desk.RegionLine.{RegionLine}
 use Rattle.lines.specs.Fields.{word_of}
 use Rattle.lines.specs.Desk.{max32}
@@ -38,3 +40,7 @@ rule_words r w = polyphony_words r (choke_words r (turn_words r w))
 -- the words of an R line's region
 unfoldable pub region_words : RegionLine → List ℕ → List ℕ
 region_words r w = rule_words r (mode_words r (window_words r (default_region w)))
+
+-- the words of an S line's sample: mono, its frames the first of those lent
+unfoldable pub sample_words : ℕ → ℕ → List ℕ → List ℕ
+sample_words rate frames w = slice_set (slice_set (slice_set (slice_set w 0 (to_bits binary32 (of_int binary32 (pos rate)))) 1 1) 2 frames) 3 0

@@ -6,7 +6,7 @@ use lines::desk::{BlockLine, DeskLine, read_desk};
 use lister::feed::Feed;
 use lister::script;
 use lister::script::Script;
-use lister::show::{Totals, put_records};
+use lister::show::{put_records, put_totals};
 use lister::text::Text;
 use live::Live;
 use live::refusal::Refusal;
@@ -14,12 +14,15 @@ use live::refusal::Refusal;
 // The longest sample that a line gives.
 const FRAMES: usize = 8000;
 
+// It is lent what is large: made within it and moved, half a megabyte more would be copied.
 #[derive(Drop)]
-struct Desk {
-    live: Live<FRAMES>,
+struct Desk<'a> {
+    live: &'a mut Live<FRAMES>,
 }
 
-// A block with the gate, the frequency and the velocity as they are throughout, and nothing else connected.
+// A block with the gate, the frequency and the velocity as they are throughout, and nothing else connected. Out of line, as `Live`'s
+// calls are.
+#[inline(never)]
 fn play(live: &mut Live<FRAMES>, b: BlockLine) -> Result<(), Refusal> {
     let freq = [b.freq; 128];
     let gate = [if b.gate { 1.0 } else { 0.0 }; 128];
@@ -36,23 +39,24 @@ fn play(live: &mut Live<FRAMES>, b: BlockLine) -> Result<(), Refusal> {
     Ok(())
 }
 
-impl Desk {
-    // A call of its own, so that what it copies while it is made takes no room on the stack later.
-    #[inline(never)]
-    fn new() -> Desk {
-        Desk { live: Live::new() }
-    }
-
+impl<'a> Desk<'a> {
     // The list after a step.
     fn show(&self, text: &mut Text) {
         let step = self.live.step;
         let session = &self.live.session;
         put_records(text, session, step);
-        text.line(Totals { step, session });
+        put_totals(text, session, step);
+        text.end();
+    }
+
+    #[inline(never)]
+    fn reset(&mut self, id: u64) -> Result<(), Refusal> {
+        self.live.reset(id)?;
+        Ok(())
     }
 }
 
-impl Script for Desk {
+impl<'a> Script for Desk<'a> {
     type Refusal = Refusal;
 
     fn take(&mut self, text: &mut Text, _number: u64, line: &[u8]) -> Result<(), Refusal> {
@@ -67,19 +71,30 @@ impl Script for Desk {
                 return Ok(());
             }
             DeskLine::Voice { rate } => return self.live.make(std::num::nearest_u32_to_f32(rate)),
-            DeskLine::Block(b) => play(&mut self.live, b)?,
-            DeskLine::Reset(id) => {
-                self.live.reset(id)?;
-            }
+            DeskLine::Block(b) => play(self.live, b)?,
+            DeskLine::Reset(id) => self.reset(id)?,
             DeskLine::Close(id) => self.live.close(id)?,
         }
         self.show(text);
         Ok(())
     }
+
+    fn forget(&mut self) {
+        self.live.forget();
+    }
 }
 
 // One script from a fresh session.
 pub fn perform(feed: &mut Feed) {
-    let mut desk = Desk::new();
-    script::perform(feed, &mut desk);
+    let mut text = Text::new();
+    let mut live = Live::new();
+    let mut desk = Desk { live: &mut live };
+    script::perform(feed, &mut text, &mut desk);
+}
+
+// Many scripts, each from a fresh session.
+pub fn replay() {
+    let mut live = Live::new();
+    let mut desk = Desk { live: &mut live };
+    script::replay(&mut desk);
 }

@@ -1,12 +1,14 @@
-// The words of an R line's region, as binding is lent them. Their numbers are those of docs/PROGRAM.md's table, as in `program`'s
+// The words of an R line's region and of an S line's sample, as binding is lent them. Their numbers are those of docs/PROGRAM.md's table, as in `program`'s
 // readers: of 24 names for them 23 would stand here once, away from the table.
 ghost use Rattle.std.specs.Prelude.{◌≡◌, ◌+◌, ◌<◌, replicate};
 ghost use Rattle.desk_script.specs.Words.{default_region, option_words, region_words};
+ghost use Rattle.desk_script.specs.Words as specs;
 
 use lines::desk::RegionLine;
 use lines::field::word_of;
 use lister::store::{Store, sample_words};
 use program::region::{REGION_WORDS, SILENCE};
+use program::sample::SAMPLE_WORDS;
 
 // `Region::default` of the Rust, over words that are 0. The test programs have the same words in a table: one for all would be a public
 // name of `program` that no voice uses, and its loop would need an invariant and a lemma where these writes are their equation.
@@ -58,11 +60,18 @@ pub(crate) fn region_words(r: RegionLine) -> [u32; REGION_WORDS]
     w
 }
 
+// The words of an S line's sample: mono, its frames the first of the zeros that are lent.
+#[tactic(auto, unfolding(crate::specs::Words::sample_words))]
+fn sample_line_words(rate: u32, frames: u32) -> [u32; SAMPLE_WORDS]
+    ensures { result ≡ specs.sample_words rate frames (replicate 4 0) }
+{
+    sample_words(std::num::nearest_u32_to_f32(rate), 1, frames, 0)
+}
+
 // A sample is silence: each plays the first of the same zeros.
 pub(crate) fn add_sample<const N: usize>(store: &mut Store<N>, rate: u32, frames: u32) {
     for _ in store.frames.len()..frames as usize {
         let _ = store.frames.try_push(0.0);
     }
-    let rate = std::num::nearest_u32_to_f32(rate);
-    store.add_sample(sample_words(rate, 1, frames, 0));
+    store.add_sample(sample_line_words(rate, frames));
 }

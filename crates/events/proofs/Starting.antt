@@ -27,7 +27,7 @@ module _ (k : Kit) (m : ℕ) (n : NoteState) (at : ℕ) (s : Session) (v : Sampl
       → (ch : Chosen) → ch ≡ chosen_from (chosen_off k.words m n.note n.vel draw t)
       → (held : Float) → held ≡ held_for at n.on_time v.sample_rate
       → (r : Both)
-      → r ≡ started_all k n (record { serial = t.event_serial; at = at; kind = Release held }) (chosen_list ch) (record { session = t; voice = v })
+      → r ≡ started_all k n (record { serial = t.event_serial; at = at; kind = Release; held_secs = held }) (chosen_list ch) (record { session = t; voice = v })
       → r ≡ releases_fired k m n at (record { session = s; voice = v })
   unfolding releases_fired release_cause
   fired h t t-is draw draw-is ch ch-is held held-is r r-is =

@@ -55,7 +55,7 @@ abbrev pub note_in : NoteState → Note
 note_in n = record { note = n.note; vel = n.vel; note_f = n.note_f; seed = n.seed; interp = n.interp }
 
 abbrev pub event_in : ℕ → ℕ → Cause → Event
-event_in slot i c = record { slot = slot; region = i; serial = c.serial; cause = c.kind }
+event_in slot i c = record { slot = slot; region = i; serial = c.serial; cause = c.kind; held_secs = c.held_secs }
 
 -- what the region's velocity curve gives at the note's velocity
 unfoldable pub curve_for : List ℕ → Region → ℕ → ℕ → Option Float
@@ -111,7 +111,7 @@ unfoldable pub held_for : ℕ → ℕ → Float → Float
 held_for at on rate = of_int binary32 (pos (at - on)) ⊘ rate
 
 unfoldable pub release_cause : NoteState → ℕ → Float → Session → Cause
-release_cause n at rate s = record { serial = s.event_serial; at = at; kind = Release (held_for at n.on_time rate) }
+release_cause n at rate s = record { serial = s.event_serial; at = at; kind = Release; held_secs = held_for at n.on_time rate }
 
 -- Of m regions those chosen start. The event takes a serial, whether a region starts or not
 unfoldable pub releases_fired : Kit → ℕ → NoteState → ℕ → Both → Both

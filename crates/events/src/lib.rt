@@ -44,12 +44,13 @@ pub struct Kit<'a> {
     pub ghost few: { regions ≤ 256 },
 }
 
-// What a start has of its event.
+// What a start has of its event: for how long the note was held stands beside the kind, as in a player's event.
 #[derive(Clone, Copy)]
 pub struct Cause {
     pub serial: u64,
     pub at: u64,
     pub kind: player::start::Cause,
+    pub held_secs: f32,
 }
 
 // What an event starts regions with.

@@ -70,6 +70,7 @@ fn player_of(k: Kit<'_>, ri: u32, x: Stroke, slot: u32, sr: f32) -> Player
         region: ri,
         serial: x.cause.serial,
         cause: x.cause.kind,
+        held_secs: x.cause.held_secs,
     };
     start(region, sample, curve, note, event, sr)
 }
@@ -178,7 +179,8 @@ fn fire_releases(b: Both, k: Kit<'_>, ns: NoteState, at: u64) -> Both
     let cause = Cause {
         serial,
         at,
-        kind: Kind::Release { held_secs },
+        kind: Kind::Release,
+        held_secs,
     };
     start_all(fired, k, chosen, Stroke { note: ns, cause })
 }

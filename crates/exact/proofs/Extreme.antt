@@ -1,7 +1,7 @@
 -- The larger and the smaller of two floats, by tests of their order. Assumes nothing.
-use Rattle.std.proofs.Common.{◌≡◌, ℕ, zero, suc, ◌+◌, ◌*◌, ◌≤◌, Bool, true, false, cond, ◌&&◌, ◌||◌, T, eqb, ltb, pos, sym, refl, ap, ◌∙◌, subst, ap₂, true≢false, le_of_lt, zero-mul, arith, eqb→eq, ltb-false, ltb-true, le-ltb, lt-ltb}
+use Rattle.std.proofs.Common.{◌≡◌, ℕ, ◌+◌, ◌*◌, ◌≤◌, Bool, true, false, cond, ◌&&◌, ◌||◌, T, eqb, ltb, pos, sym, refl, ◌∙◌, subst, ap₂, true≢false, le_of_lt, zero-mul, arith, eqb→eq, ltb-false, ltb-true, le-ltb}
 use mathlib.Core.Bool.{beq}
-use lib.Ieee.{Float, nan, inf, fin, binary32, up, down, is_nan, fits, lt, eq, below, level, add, neg}
+use lib.Ieee.{Float, nan, inf, fin, binary32, up, down, is_nan, fits, lt, eq, below, level, add, sub, neg}
 use lib.Ieee.Fits.{down_pos, and_l}
 use Rattle.exact.proofs.Magnitude.{equals-zero, zero-form}
 use Rattle.exact.specs.Order.{smaller, chosen, maximum, minimum}
@@ -32,6 +32,12 @@ unfolding chosen
 takes-other b x y h = rw h
 
 -- ---- what a test says of a NaN
+lt-first : (x y : Float) → lt x y ≡ true → is_nan x ≡ false
+unfolding lt is_nan
+lt-first nan y h = sym h
+lt-first (inf s) y h = refl
+lt-first (fin s m e) y h = refl
+
 lt-second : (x y : Float) → lt x y ≡ true → is_nan y ≡ false
 unfolding lt is_nan
 lt-second nan y h = absurd (true≢false (sym h))
@@ -124,6 +130,13 @@ sum-largest true false = refl
 sum-largest false true = refl
 sum-largest false false = refl
 
+sum-smallest : (s t : Bool) → neg (sub binary32 (neg (fin s 0 (pos 0))) (fin t 0 (pos 0))) ≡ minimum (fin s 0 (pos 0)) (fin t 0 (pos 0))
+unfolding sub minimum
+sum-smallest true true = refl
+sum-smallest true false = refl
+sum-smallest false true = refl
+sum-smallest false false = refl
+
 -- ---- by the tests of the code
 pub max-second : (x y : Float) → lt x y ≡ true → y ≡ maximum x y
 unfolding maximum
@@ -147,73 +160,24 @@ pub max-same : (x y : Float) → lt x y ≡ false → is_nan x ≡ false → eq 
 unfolding maximum
 max-same x y h n z = takes_first (smaller x y) x y (smaller-level x y h (λ p q. true≢false (sym q ∙ z))) n
 
--- ---- the smaller one, as the larger one of the two with the other signs
-neg-neg : (x : Float) → neg (neg x) ≡ x
-unfolding neg
-neg-neg nan = refl
-neg-neg (inf true) = refl
-neg-neg (inf false) = refl
-neg-neg (fin true m e) = refl
-neg-neg (fin false m e) = refl
+pub min-first : (x y : Float) → lt x y ≡ true → x ≡ minimum x y
+unfolding minimum
+min-first x y h = takes_first (smaller y x) x y (smaller-gt y x h) (lt-first x y h)
 
-neither : (p q r : Bool) → (p || (q && false)) ≡ (p || (r && false))
-neither true q r = refl
-neither false true true = refl
-neither false true false = refl
-neither false false true = refl
-neither false false false = refl
+pub min-second : (x y : Float) → lt y x ≡ true → y ≡ minimum x y
+unfolding minimum
+min-second x y h = takes-second (smaller y x) x y (smaller-lt y x h) (lt-first y x h)
 
-some : (p q r s : Bool) → p ≡ true → r ≡ true → (p || q) ≡ (r || s)
-some true q true s h g = refl
-some true q false s h g = absurd (true≢false (sym g))
-some false q r s h g = absurd (true≢false (sym h))
+pub min-other : (x y : Float) → is_nan x ≡ true → y ≡ minimum x y
+unfolding minimum
+min-other x y h = takes-other (smaller y x) x y h
 
-about_zero : (a b : ℕ) → (ltb 0 (a + b) || (level true a false b && true)) ≡ (ltb 0 (b + a) || (level true b false a && true))
-about_zero zero zero = refl
-about_zero zero (suc b) = some (ltb 0 (0 + suc b)) (level true 0 false (suc b) && true) (ltb 0 (suc b + 0)) (level true (suc b) false 0 && true) (lt-ltb 0 (0 + suc b) (omega arith)) (lt-ltb 0 (suc b + 0) (omega arith))
-about_zero (suc a) b = some (ltb 0 (suc a + b)) (level true (suc a) false b && true) (ltb 0 (b + suc a)) (level true b false (suc a) && true) (lt-ltb 0 (suc a + b) (omega arith)) (lt-ltb 0 (b + suc a) (omega arith))
+pub min-zeros : (x y : Float) → T (fits binary32 x) → T (fits binary32 y) → lt x y ≡ false → lt y x ≡ false → is_nan x ≡ false → Zero y → neg (sub binary32 (neg x) y) ≡ minimum x y
+min-zeros x y f g h k n z =
+    let q = zero_of y g z in
+    let p = zero-beside x q.0 f n (subst (λ (v : Float). lt x v ≡ false) q.1 h) (subst (λ (v : Float). lt v x ≡ false) q.1 k) in
+    ap₂ (λ (v w : Float). neg (sub binary32 (neg v) w)) p.1 q.1 ∙ sum-smallest p.0 q.0 ∙ sym (ap₂ minimum p.1 q.1)
 
-smaller-neg : (x y : Float) → smaller (neg x) (neg y) ≡ smaller y x
-unfolding smaller neg
-smaller-neg nan nan = refl
-smaller-neg nan (inf true) = refl
-smaller-neg nan (inf false) = refl
-smaller-neg nan (fin t n d) = refl
-smaller-neg (inf true) nan = refl
-smaller-neg (inf false) nan = refl
-smaller-neg (inf true) (inf true) = refl
-smaller-neg (inf true) (inf false) = refl
-smaller-neg (inf false) (inf true) = refl
-smaller-neg (inf false) (inf false) = refl
-smaller-neg (inf true) (fin true n d) = refl
-smaller-neg (inf true) (fin false n d) = refl
-smaller-neg (inf false) (fin true n d) = refl
-smaller-neg (inf false) (fin false n d) = refl
-smaller-neg (fin true m e) nan = refl
-smaller-neg (fin false m e) nan = refl
-smaller-neg (fin true m e) (inf true) = refl
-smaller-neg (fin true m e) (inf false) = refl
-smaller-neg (fin false m e) (inf true) = refl
-smaller-neg (fin false m e) (inf false) = refl
-smaller-neg (fin true m e) (fin true n d) = neither (ltb (m * up e * down d) (n * up d * down e)) (level false (m * up e * down d) false (n * up d * down e)) (level true (n * up d * down e) true (m * up e * down d))
-smaller-neg (fin true m e) (fin false n d) = neither false (level false (m * up e * down d) true (n * up d * down e)) (level false (n * up d * down e) true (m * up e * down d))
-smaller-neg (fin false m e) (fin true n d) = about_zero (m * up e * down d) (n * up d * down e)
-smaller-neg (fin false m e) (fin false n d) = neither (ltb (n * up d * down e) (m * up e * down d)) (level true (m * up e * down d) true (n * up d * down e)) (level false (n * up d * down e) false (m * up e * down d))
-
-chosen-neg : (b : Bool) (x y : Float) → neg (chosen b (neg x) (neg y)) ≡ chosen b x y
-unfolding chosen neg
-chosen-neg b nan y = neg-neg y
-chosen-neg b (inf s) nan = neg-neg (inf s)
-chosen-neg b (fin s m e) nan = neg-neg (fin s m e)
-chosen-neg true (inf s) (inf t) = neg-neg (inf t)
-chosen-neg false (inf s) (inf t) = neg-neg (inf s)
-chosen-neg true (inf s) (fin t n d) = neg-neg (fin t n d)
-chosen-neg false (inf s) (fin t n d) = neg-neg (inf s)
-chosen-neg true (fin s m e) (inf t) = neg-neg (inf t)
-chosen-neg false (fin s m e) (inf t) = neg-neg (fin s m e)
-chosen-neg true (fin s m e) (fin t n d) = neg-neg (fin t n d)
-chosen-neg false (fin s m e) (fin t n d) = neg-neg (fin s m e)
-
-pub min-neg : (x y : Float) → neg (maximum (neg x) (neg y)) ≡ minimum x y
-unfolding maximum minimum
-min-neg x y = ap (λ (b : Bool). neg (chosen b (neg x) (neg y))) (smaller-neg x y) ∙ chosen-neg (smaller y x) x y
+pub min-same : (x y : Float) → lt y x ≡ false → is_nan x ≡ false → eq y (fin false 0 (pos 0)) ≡ false → x ≡ minimum x y
+unfolding minimum
+min-same x y h n z = takes_first (smaller y x) x y (smaller-level y x h (λ p q. true≢false (sym p ∙ z))) n

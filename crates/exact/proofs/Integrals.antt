@@ -56,7 +56,7 @@ held f s (suc m) e t =
 pub lowest-exponent : (l k : ℕ) → 2 ^ suc k ≤ 2 ^ l → suc k ≤ l
 lowest-exponent l k h = le_of_suc-le-suc (lt_of_not-le (λ (g : suc l ≤ suc k). not-le_of_lt (pow-lt g) h))
 
-whole-value : (f : Format) (s : Bool) (m k : ℕ) → T (fits f (fin s m (pos k))) → HasValue (round f s (m * 2 ^ k) 1) s (m * 2 ^ k) 1
+pub whole-value : (f : Format) (s : Bool) (m k : ℕ) → T (fits f (fin s m (pos k))) → HasValue (round f s (m * 2 ^ k) 1) s (m * 2 ^ k) 1
 whole-value f s m k t =
     let h = held f s m (pos k) t in
     let e : m * 2 ^ k * 2 ^ low f ≡ m * 2 ^ (k + low f) = mul_assoc m (2 ^ k) (2 ^ low f) ∙ ap (λ (z : ℕ). m * z) (sym (pow-add 2 k (low f))) in

@@ -4,8 +4,11 @@ pub mod Negation
 pub mod Narrowing
 pub mod Integrals
 pub mod SquareRoot
+pub mod Saturate
+pub mod Leading
 pub mod Magnitude
 pub mod Extreme
 pub mod Draw
 pub mod Library
 pub mod Halves
+pub mod Small

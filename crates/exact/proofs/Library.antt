@@ -1,19 +1,11 @@
 -- What std's methods of floats compute is what the specs here say. Assumes nothing.
 use Rattle.std.proofs.Common.{◌≡◌, ℕ, ◌+◌, ◌-◌, ◌/◌, ◌*◌, ◌<◌, true, false, T, refl, ap, ◌∙◌, arith}
-use lib.Ieee.{Float, nan, inf, fin, Format, binary32, fits, up, down, round, sub}
+use lib.Ieee.{Float, nan, inf, fin, Format, fits, up, down, round, sub}
 use lib.Ieee.Fits.{down_pos}
 use lib.Ieee.Scale.{finite}
-use Rattle.std.specs.Float.{float_with_sign, float_is_finite, round_with, trunc, floor, ceil, float_round, fract, ratio_ceil, round_to_format}
-use Rattle.exact.specs.Narrow.{narrowed}
-use Rattle.exact.specs.Order.{magnitude}
+use Rattle.std.specs.Float.{float_is_finite, round_with, trunc, floor, ceil, float_round, fract, ratio_ceil}
 use Rattle.exact.specs.Integral.{ceiling, toward_zero, toward_negative, toward_positive, ties_to_away, integral, fraction}
 use Rattle.exact.proofs.Integrals.{fraction-done}
-
-pub magnitude_is : (x : Float) → float_with_sign false x ≡ magnitude x
-unfolding float_with_sign magnitude
-magnitude_is nan = refl
-magnitude_is (inf s) = refl
-magnitude_is (fin s m e) = refl
 
 pub finite_is : (x : Float) → float_is_finite x ≡ finite x
 unfolding float_is_finite
@@ -58,10 +50,3 @@ round_is f (fin false m e) = refl
 
 pub fract_is : (f : Format) (x : Float) → T (fits f x) → fract f x ≡ fraction f x
 fract_is f x t = ap (λ (v : Float). sub f x v) (cut_is f x) ∙ fraction-done f x t
-
--- ---- the nearest single
-pub narrow_is : (x : Float) → round_to_format binary32 x ≡ narrowed x
-unfolding round_to_format narrowed
-narrow_is nan = refl
-narrow_is (inf s) = refl
-narrow_is (fin s m e) = refl

@@ -1,5 +1,5 @@
 -- The pattern of an `f32` without its sign, and zeros. Assumes nothing.
-use Rattle.std.proofs.Common.{◌≡◌, ℕ, zero, suc, ◌+◌, ◌*◌, ◌/◌, ◌%◌, ◌<◌, Bool, true, false, cond, not, T, eqb, leb, ℤ, pos, sym, refl, ap, ◌∙◌, ap₂, zero-mul, arith}
+use Rattle.std.proofs.Common.{◌≡◌, ℕ, zero, suc, ◌+◌, ◌*◌, ◌/◌, ◌%◌, ◌<◌, Bool, true, false, cond, not, T, eqb, leb, ℤ, pos, sym, refl, ap, ◌∙◌, ap₂, zero-mul, arith, true≢false, subst}
 use native.Mathlib.Nat.{eq_of_mul-eq-mul_right}
 use borrow.Author.Tests.{lt-leb}
 use lib.Ieee.{Float, nan, inf, fin, Format, binary32, hid, ones, prec, low, up, down, odd, of_fields, of_bits, to_bits, nan_bits, is_nan, fits, eq, level}
@@ -48,6 +48,15 @@ cleared x h = clear (to_bits binary32 x) ∙ ap magnitude (of_bits-to_bits binar
 
 pub cleared-no-nan : (x : Float) → T (fits binary32 x) → T (not (is_nan x)) → T (not (nan_bits binary32 (to_bits binary32 x % 2147483648)))
 cleared-no-nan x h n = rw (same-nan (to_bits binary32 x), nan_bits_is binary32 (to_bits binary32 x), of_bits-to_bits binary32 x h) n
+
+pub magnitude-nan : (x : Float) → is_nan x ≡ true → x ≡ magnitude x
+unfolding is_nan magnitude
+magnitude-nan nan h = refl
+magnitude-nan (inf s) h = absurd (true≢false (sym h))
+magnitude-nan (fin s m e) h = absurd (true≢false (sym h))
+
+pub not-nan : (x : Float) → is_nan x ≡ false → T (not (is_nan x))
+not-nan x h = subst (λ (b : Bool). T (not b)) (sym h) tt
 
 -- ---- zeros
 zero-times : (a c : ℕ) → 0 < c → a * c ≡ 0 → a ≡ 0

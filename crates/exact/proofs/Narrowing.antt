@@ -1,20 +1,21 @@
 -- From an `f64`'s bit pattern to the pattern of the nearest `f32`. Assumes nothing.
-use Rattle.std.proofs.Common.{◌≡◌, ℕ, zero, suc, ◌+◌, ◌-◌, ◌*◌, ◌/◌, ◌%◌, ◌^◌, ◌<◌, ◌≤◌, Bool, true, false, cond, not, ◌&&◌, T, eqb, ltb, leb, ◌⊎◌, sym, refl, ap, ◌∙◌, subst, ap₂, inl, inr, true≢false, le_trans, le_of_eq, le_refl, lt_of_lt_of_le, le_of_suc-le-suc, lt_of_le_of_lt, mul-le-mul_right, mod-lt, mod-eq_of_lt, div-lt_iff_lt-mul, mul-le-mul, add_comm, le_antisymm, eq-or-lt_of_le, mul-lt-mul_of_pos_right, mul-pos, pow-suc, lt_of_not-le, div-add-mod', le-div_iff_mul-le, zero-add, mul-one, not-le_of_lt, div-one, mul-div_cancel, arith, lit<, lit≤, eqb→eq, ltb→lt, lt→ltb, nltb→le, pow_pos, pow_mono, pow-add}
+use Rattle.std.proofs.Common.{◌≡◌, ℕ, zero, suc, ◌+◌, ◌-◌, ◌*◌, ◌/◌, ◌%◌, ◌^◌, ◌<◌, ◌≤◌, Bool, true, false, cond, not, ◌&&◌, T, eqb, ltb, leb, ◌⊎◌, sym, refl, ap, ◌∙◌, subst, ap₂, inl, inr, true≢false, le_trans, le_of_eq, le_refl, lt_of_lt_of_le, le_of_suc-le-suc, lt_of_le_of_lt, mul-le-mul_right, mod-lt, mod-eq_of_lt, div-lt_iff_lt-mul, mul-le-mul, add_comm, le_antisymm, eq-or-lt_of_le, mul-le-mul_left, mul-lt-mul_of_pos_right, mul-pos, one-mul, pow-suc, lt_of_not-le, div-add-mod', le-div_iff_mul-le, zero-add, mul-one, not-le_of_lt, div-mul-le_self, div-one, mul-div_cancel, arith, lit<, lit≤, le→leb, eqb→eq, ltb→lt, lt→ltb, nltb→le, pow_pos, pow_mono, pow-add}
 use Prim.Native.Nat.{compare, Ordering}
 use native.Mathlib.Nat.{add-mul-div_right, mul-add-mod_self_right}
 use lib.Dec.{not_T}
-use lib.Ieee.{Float, nan, inf, fin, Format, binary32, binary64, prec, low, hid, of_bits, to_bits, of_fields, odd, units, round, nearest, size, down, ne, fits, is_nan, nan_bits}
+use lib.Ieee.{Float, nan, inf, fin, Format, binary32, binary64, prec, low, hid, of_bits, to_bits, of_fields, odd, units, round, nearest, size, up, down, neg, ne, div, fits, is_nan, nan_bits}
 use lib.Ieee.Compare.{differs_from_itself, nan_differs}
 use lib.Ieee.Digits.{size-lt, size-le}
 use lib.Ieee.Fits.{round_is, round-fits, down_pos, nearest-le, fits_widens, and_i}
 use lib.Arith.{le→nltb, lt→nleb, digits_div, digits_mod}
-use lib.Ieee.Bits.{of_bits-to_bits, cond_no, is_false, nan_bits_above}
+use lib.Ieee.Bits.{of_bits-to_bits, cond_no, is_false, is_true, nan_bits_above, nan_bits_is}
 use lib.Ieee.Exact.{HasValue, units_val, odd_sign}
 use lib.Ieee.Nearest.{closest, closest_same, nearest-ge}
 use Rattle.exact.proofs.Rounding.{closest-hi, Cmp, cmp}
 use Rattle.exact.specs.Narrow.{narrowed}
 use Rattle.exact.specs.Value.{plus}
 use Rattle.exact.proofs.Value.{value-plus}
+use Rattle.exact.proofs.Negation.{neg-odd, inf-neg, neg-round}
 use lib.Ieee.Scale.{round_same}
 use lib.Ieee.Positive.{num, den, den_pos, value→cross}
 
@@ -228,6 +229,17 @@ normal-at j t h k =
     ∙ ap (λ (y : ℕ). round binary32 false (sg * y) (2 ^ 1074)) (pow-add 2 896 j))
     ∙ narrow-normal sg (2 ^ 896) 536870912 (2 ^ 1074) j (pow_pos 896) (lit< tt) refl (omega arith) (omega arith)
 
+small_at : (x t : ℕ) → x ≤ 895 → t < 4503599627370496 → wide (suc x * 4503599627370496 + t) ≡ closest (4503599627370496 + t) (2 ^ (925 - x))
+small_at x t h k =
+    let sg = 4503599627370496 + t in
+    let o : x + 149 + (925 - x) ≡ 1074 = omega arith in
+    let d : 2 ^ x * 2 ^ 149 * 2 ^ (925 - x) ≡ 2 ^ 1074 = ap (λ (y : ℕ). y * 2 ^ (925 - x)) (sym (pow-add 2 x 149)) ∙ sym (pow-add 2 (x + 149) (925 - x)) ∙ ap (λ (y : ℕ). 2 ^ y) o in
+    let i : 30 ≤ 925 - x = omega arith in
+    let w : 2 ^ 30 ≤ 2 ^ (925 - x) = pow_mono {i = 30} {j = 925 - x} i in
+    ap (λ (y : Float). to_bits binary32 y) (round-at (of_bits binary64 (suc x * 4503599627370496 + t)) (sg * 2 ^ x) (2 ^ 1074) (pow_pos 1074) (bits-value x t (omega arith) k)
+    ∙ ap (λ (y : ℕ). round binary32 false (sg * y) (2 ^ 1074)) (sym (mul-one (2 ^ x))))
+    ∙ narrow-small sg (2 ^ x) (2 ^ (925 - x)) (2 ^ 1074) (pow_pos x) (pow_pos (925 - x)) d (omega arith)
+
 zero-at : (t : ℕ) → t < 4503599627370496 → wide (0 * 4503599627370496 + t) ≡ 0
 zero-at t k =
     ap (λ (y : Float). to_bits binary32 y) (round-at (of_bits binary64 (0 * 4503599627370496 + t)) (t * 2 ^ 0) (2 ^ 1074) (pow_pos 1074) (bits-value0 t k))
@@ -256,12 +268,91 @@ wide-normal b l h =
     shifted : (x y j : ℕ) → x ≡ 2 * ((896 + j) * 4194304) + y → x - 7516192768 ≡ j * 8388608 + y
     shifted x y j e = omega arith
 
+pub wide-small : (b : ℕ) → 4503599627370496 ≤ b → b < 4039728865751334912 → wide b ≡ closest (4503599627370496 + b % 4503599627370496) (2 ^ (926 - b / 4503599627370496))
+wide-small b l h =
+    let t = b % 4503599627370496 in
+    let x = b / 4503599627370496 - 1 in
+    let e : suc x * 4503599627370496 + t ≡ b = omega arith in
+    let d : 925 - x ≡ 926 - b / 4503599627370496 = omega arith in
+    ap wide (sym e) ∙ small_at x t (omega arith) (digit b) ∙ ap (λ (y : ℕ). closest (4503599627370496 + t) (2 ^ y)) d
+
+pub wide-tiny : (b : ℕ) → b < 3927138875067072512 → wide b ≡ 0
+wide-tiny b h = go (ltb b 4503599627370496) (ltb→lt b 4503599627370496) (nltb→le b 4503599627370496)
+  where
+    below : (q : ℕ) → q ≤ 871 → 55 ≤ 926 - q
+    below q h = omega arith
+
+    go : (t : Bool) → (T t → b < 4503599627370496) → (T (not t) → 4503599627370496 ≤ b) → wide b ≡ 0
+    go true k g =
+        let k' : b < 4503599627370496 = k tt in
+        let e : 0 * 4503599627370496 + b ≡ b = omega arith in
+        ap wide (sym e) ∙ zero-at b k'
+    go false k g =
+        let g' : 4503599627370496 ≤ b = g tt in
+        let h' : b < 4039728865751334912 = omega arith in
+        let q : b / 4503599627370496 ≤ 871 = omega arith in
+        let w : 2 ^ 55 ≤ 2 ^ (926 - b / 4503599627370496) = pow_mono {i = 55} {j = 926 - b / 4503599627370496} (below (b / 4503599627370496) q) in
+        wide-small b g' h' ∙ closest-none (4503599627370496 + b % 4503599627370496) (2 ^ (926 - b / 4503599627370496)) (omega (arith, digit b))
+
 abbrev pub unsigned : Float → Bool
 unsigned nan = true
 unsigned (inf s) = not s
 unsigned (fin s m e) = not s
 
--- ---- what `normal_bits` returns
+-- ---- the sign goes through
+neg-cond : (b : Bool) (x y x' y' : Float) → x ≡ neg x' → y ≡ neg y' → cond b x y ≡ neg (cond b x' y')
+neg-cond true x y x' y' p q = p
+neg-cond false x y x' y' p q = q
+
+nan-neg : nan ≡ neg nan
+unfolding neg
+nan-neg = refl
+
+pub narrowed-neg : (x : Float) → T (unsigned x) → narrowed (neg x) ≡ neg (narrowed x)
+unfolding narrowed neg
+narrowed-neg nan u = refl
+narrowed-neg (inf false) u = refl
+narrowed-neg (inf true) u = absurd u
+narrowed-neg (fin false m e) u = neg-round binary32 (m * up e) (down e)
+narrowed-neg (fin true m e) u = absurd u
+
+-- ---- what `nearest_quotient` computes
+by_order : (q a u : ℕ) (o : Ordering) → Cmp o a u → (a < u → nearest q o ≡ q) × (u < a → nearest q o ≡ q + 1) × (a ≡ u → nearest q o ≡ q + q % 2)
+by_order q a u Ordering.lt h = (λ k. refl, λ k. absurd (bad1 k), λ k. absurd (bad2 k))
+  where
+    bad1 : u < a → ⊥
+    bad1 k = omega arith
+
+    bad2 : a ≡ u → ⊥
+    bad2 k = omega arith
+by_order q a u Ordering.eq h = (λ k. absurd (bad1 k), λ k. absurd (bad2 k), λ k. refl)
+  where
+    bad1 : a < u → ⊥
+    bad1 k = omega arith
+
+    bad2 : u < a → ⊥
+    bad2 k = omega arith
+by_order q a u Ordering.gt h = (λ k. absurd (bad1 k), λ k. omega arith, λ k. absurd (bad2 k))
+  where
+    bad1 : a < u → ⊥
+    bad1 k = omega arith
+
+    bad2 : a ≡ u → ⊥
+    bad2 k = omega arith
+
+pub closest-down : (v u : ℕ) → v % u * 2 < u → v / u ≡ closest v u
+closest-down v u h = sym ((by_order (v / u) (v % u * 2) u (compare (v % u * 2) u) (cmp (v % u * 2) u)).0 h)
+
+pub closest-up : (v u : ℕ) → u < v % u * 2 → v / u + 1 ≡ closest v u
+closest-up v u h = sym ((by_order (v / u) (v % u * 2) u (compare (v % u * 2) u) (cmp (v % u * 2) u)).1 h)
+
+pub closest-tie : (v u : ℕ) → v % u * 2 ≡ u → v / u + v / u % 2 ≡ closest v u
+closest-tie v u h = sym ((by_order (v / u) (v % u * 2) u (compare (v % u * 2) u) (cmp (v % u * 2) u)).2 h)
+
+pub half-quotient : (v u : ℕ) → 2 ≤ u → v / u * 2 ≤ v
+half-quotient v u h = le_trans (mul-le-mul_left (v / u) h) (div-mul-le_self v u)
+
+-- ---- what `narrow_bits` and `normal_bits` return
 finite-plus : (b : ℕ) → b < 9218868437227405312 → T (plus (of_bits binary64 b))
 finite-plus b h = go (b / 4503599627370496) refl
   where
@@ -306,7 +397,87 @@ done-normal b q l e h =
     let s : q - 7516192768 ≡ closest b 536870912 - 7516192768 = ap (λ (x : ℕ). x - 7516192768) e in
     (ap (λ (y : ℕ). of_bits binary32 y) s ∙ from-wide b (closest b 536870912 - 7516192768) f (wide-normal b l f ∙ cond-is (closest b 536870912 - 7516192768) 2139095040 m), omega arith)
 
--- ---- a NaN, and what is none
+inf-bits64 : narrowed (of_bits binary64 9218868437227405312) ≡ inf false
+unfolding narrowed of_bits
+inf-bits64 = refl
+
+inf-bits32 : of_bits binary32 2139095040 ≡ inf false
+unfolding of_bits
+inf-bits32 = refl
+
+pub done-inf : (b q : ℕ) → 4039728865751334912 ≤ b → b ≤ 9218868437227405312 → q ≡ closest b 536870912 → 9655287808 ≤ q
+    → (of_bits binary32 2139095040 ≡ narrowed (of_bits binary64 b)) × (2139095040 ≤ 2139095040)
+done-inf b q l u e h = elim (eq-or-lt_of_le u) [
+  | inl i ↦ (inf-bits32 ∙ sym inf-bits64 ∙ ap (λ (y : ℕ). narrowed (of_bits binary64 y)) (sym i), le_refl 2139095040)
+  | inr f ↦ (from-wide b 2139095040 f (wide-normal b l f ∙ cond_no (ltb (closest b 536870912 - 7516192768) 2139095040) (closest b 536870912 - 7516192768) 2139095040 (le→nltb (closest b 536870912 - 7516192768) 2139095040 (enough (closest b 536870912) q e h))), le_refl 2139095040)
+]
+  where
+    enough : (x q : ℕ) → q ≡ x → 9655287808 ≤ q → 2139095040 ≤ x - 7516192768
+    enough x q e h = omega arith
+
+-- the unit of a subnormal `f32`
+pub shifted_one : (e : ℕ) → 872 ≤ e → e ≤ 896 → (1 * 2 ^ (926 - e) % 18446744073709551616 ≡ 2 ^ (926 - e)) × (2 ≤ 2 ^ (926 - e)) × (2 ^ (926 - e) ≤ 4611686018427387904) × (1073741824 ≤ 2 ^ (926 - e))
+shifted_one e l h =
+    let p : 30 ≤ 926 - e = omega arith in
+    let q : 926 - e ≤ 54 = omega arith in
+    let P : 2 ^ 30 ≤ 2 ^ (926 - e) = pow_mono {i = 30} {j = 926 - e} p in
+    let Q : 2 ^ (926 - e) ≤ 2 ^ 54 = pow_mono {i = 926 - e} {j = 54} q in
+    (ap (λ (x : ℕ). x % 18446744073709551616) (one-mul (2 ^ (926 - e))) ∙ mod-eq_of_lt (omega arith), omega arith, omega arith, omega arith)
+
+pub done-small : (b q u : ℕ) → 3927138875067072512 ≤ b → b < 4039728865751334912 → u ≡ 2 ^ (926 - b / 4503599627370496) → 1073741824 ≤ u → q ≡ closest (b % 4503599627370496 + 4503599627370496) u
+    → (of_bits binary32 q ≡ narrowed (of_bits binary64 b)) × (q ≤ 2139095040)
+done-small b q u l h e w c =
+    let s = b % 4503599627370496 + 4503599627370496 in
+    let f : b < 9218868437227405312 = omega arith in
+    let f' : 4503599627370496 ≤ b = omega arith in
+    let k : s < 16777216 * u = omega (arith, digit b) in
+    let U : 0 < u = omega arith in
+    let d : wide b ≡ q = wide-small b f' h ∙ ap₂ (λ (x y : ℕ). closest x y) (add_comm 4503599627370496 (b % 4503599627370496)) (sym e) ∙ sym c in
+    (from-wide b q f d, le_trans (le_of_eq c) (le_trans (K-most s u U k) (lit≤ tt)))
+
+pub done-zero : (b : ℕ) → b < 3927138875067072512 → (of_bits binary32 0 ≡ narrowed (of_bits binary64 b)) × (0 ≤ 2139095040)
+done-zero b h = (from-wide b 0 (omega arith) (wide-tiny b h), omega arith)
+
+-- ---- the sign's place of an `f64`'s pattern
+fields_neg : (x t : ℕ) → of_fields binary64 true x t ≡ neg (of_fields binary64 false x t)
+unfolding of_fields
+fields_neg zero t = neg-odd 53 t 0 1074
+fields_neg (suc x) t =
+    neg-cond (eqb (suc x) 2047) (cond (eqb t 0) (inf true) nan) (odd 53 true (4503599627370496 + t) x 1074) (cond (eqb t 0) (inf false) nan) (odd 53 false (4503599627370496 + t) x 1074)
+    (neg-cond (eqb t 0) (inf true) nan (inf false) nan inf-neg nan-neg) (neg-odd 53 (4503599627370496 + t) x 1074)
+
+odd-unsigned : (d q k l : ℕ) → T (unsigned (odd d false q k l))
+unfolding odd
+odd-unsigned d zero k l = tt
+odd-unsigned d (suc q) k l = tt
+
+cond-unsigned : (b : Bool) (x y : Float) → T (unsigned x) → T (unsigned y) → T (unsigned (cond b x y))
+cond-unsigned true x y p q = p
+cond-unsigned false x y p q = q
+
+fields-unsigned : (x t : ℕ) → T (unsigned (of_fields binary64 false x t))
+unfolding of_fields
+fields-unsigned zero t = odd-unsigned 53 t 0 1074
+fields-unsigned (suc x) t = cond-unsigned (eqb (suc x) 2047) (cond (eqb t 0) (inf false) nan) (odd 53 false (4503599627370496 + t) x 1074) (cond-unsigned (eqb t 0) (inf false) nan tt tt) (odd-unsigned 53 (4503599627370496 + t) x 1074)
+
+upper-bits : (b : ℕ) → b < 9223372036854775808 → (of_bits binary64 (9223372036854775808 + b) ≡ neg (of_bits binary64 b)) × T (unsigned (of_bits binary64 b))
+unfolding of_bits
+upper-bits b h =
+    let B = 9223372036854775808 + b in
+    let x = b % 9223372036854775808 / 4503599627370496 in
+    let t = b % 4503599627370496 in
+    let p : B % 9223372036854775808 / 4503599627370496 ≡ x = omega arith in
+    let q : B % 4503599627370496 ≡ t = omega arith in
+    let s : leb 9223372036854775808 b ≡ false = is_false (leb 9223372036854775808 b) (lt→nleb 9223372036854775808 b h) in
+    let u : leb 9223372036854775808 B ≡ true = is_true (leb 9223372036854775808 B) (le→leb 9223372036854775808 B (omega arith)) in (
+      ap (λ (z : Bool). of_fields binary64 z (B % 9223372036854775808 / 4503599627370496) (B % 4503599627370496)) u
+          ∙ ap₂ (λ (y z : ℕ). of_fields binary64 true y z) p q
+          ∙ fields_neg x t
+          ∙ ap (λ (z : Bool). neg (of_fields binary64 z x t)) (sym s),
+      subst (λ (z : Bool). T (unsigned (of_fields binary64 z x t))) (sym s) (fields-unsigned x t),
+    )
+
+-- ---- what `narrow` returns
 pub no_nan : (x : Float) → ne x x ≡ false → T (not (is_nan x))
 unfolding is_nan
 no_nan nan h = absurd (true≢false (sym nan_differs ∙ h))
@@ -333,11 +504,31 @@ differs x e h = go (ne x x) refl ∙ sym e ∙ h
 pub to-double : (x : Float) → T (fits binary32 x) → T (not (is_nan x)) → T (fits binary64 x && not (is_nan x))
 to-double x f n = and_i (fits binary64 x) (not (is_nan x)) (fits_widens x f) n
 
+pub magnitude-most : (x : Float) → T (fits binary64 x) → T (not (is_nan x)) → to_bits binary64 x % 9223372036854775808 ≤ 9218868437227405312
+magnitude-most x f n = nltb→le 9218868437227405312 (to_bits binary64 x % 9223372036854775808)
+    (subst (λ (b : Bool). T (not b)) (nan_bits_above binary64 (to_bits binary64 x))
+    (subst (λ (b : Bool). T (not b)) (sym (nan_bits_is binary64 (to_bits binary64 x))) (subst (λ (y : Float). T (not (is_nan y))) (sym (of_bits-to_bits binary64 x f)) n)))
+
 pub small-no-nan : (r : ℕ) → r ≤ 2139095040 → T (not (nan_bits binary32 r))
 small-no-nan r h = subst (λ (b : Bool). T (not b)) (sym (nan_bits_above binary32 r)) (le→nltb 2139095040 (r % 2147483648) (omega arith))
 
 pub done-plus : (x : Float) (r : ℕ) → T (fits binary64 x) → of_bits binary32 r ≡ narrowed (of_bits binary64 (to_bits binary64 x)) → of_bits binary32 r ≡ narrowed x
 done-plus x r f h = h ∙ ap narrowed (of_bits-to_bits binary64 x f)
+
+pub done-minus : (b r : ℕ) → 9223372036854775808 ≤ b → b < 18446744073709551616 → of_bits binary32 r ≡ narrowed (of_bits binary64 (b - 9223372036854775808)) → neg (of_bits binary32 r) ≡ narrowed (of_bits binary64 b)
+done-minus b r g k h =
+    let low = b - 9223372036854775808 in
+    let l : low < 9223372036854775808 = omega arith in
+    let e : 9223372036854775808 + low ≡ b = omega arith in
+    let u = upper-bits low l in
+    ap neg h ∙ sym (narrowed-neg (of_bits binary64 low) u.1) ∙ ap narrowed (sym u.0 ∙ ap (λ (y : ℕ). of_bits binary64 y) e)
+
+pub done-pattern : (x y : Float) → T (fits binary64 x) → y ≡ narrowed (of_bits binary64 (to_bits binary64 x)) → y ≡ narrowed x
+done-pattern x y f h = h ∙ ap narrowed (of_bits-to_bits binary64 x f)
+
+pub done-nan : (x : Float) → ne x x ≡ true → div binary32 (of_bits binary32 0) (of_bits binary32 0) ≡ narrowed x
+unfolding div of_bits narrowed
+done-nan x h = when-nan (λ (y : Float). nan ≡ narrowed y) x h refl
 
 -- ---- 29 digits dropped without a branch
 dropped : (b : ℕ) (o : Ordering) → Cmp o (b % 536870912 * 2) 536870912 → (b + 268435455 + b / 536870912 % 2) / 536870912 ≡ nearest (b / 536870912) o

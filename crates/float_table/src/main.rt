@@ -11,8 +11,13 @@ use exact::order::{bits_f32, from_bits_f32};
 use std::io;
 use tables::Row;
 
-fn main(rt: HostRuntime) -> io::Result<()> {
-    tables::ROWS.iter().try_for_each(|r| row(&rt, *r))
+fn write(rt: &impl Print) -> io::Result<()> {
+    tables::ROWS.iter().try_for_each(|r| row(rt, *r))
+}
+
+// What cannot be written is lost: the program ends as it does where all is written.
+fn main(rt: HostRuntime) {
+    let _ = write(&rt);
 }
 
 // Where the rules leave the result open: the result to 60 digits, where the port's is near it.

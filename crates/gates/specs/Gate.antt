@@ -1,6 +1,7 @@
 -- A rising gate and a falling one. Definitions only.
 use Rattle.std.specs.Prelude.{ℕ, List, cond}
 use Rattle.exact.specs.Random.{drawn}
+use Rattle.exact.specs.Single.{f0}
 use Rattle.player.specs.declared.start.Cause.TheVariants.{NoteOn}
 use Rattle.players.specs.Gate.{released_all}
 use Rattle.session.specs.State.{serial_up, held_up, held_down, with_seq}
@@ -24,7 +25,7 @@ abbrev pub hit_at : List ℕ → NoteState → Session → Hit
 hit_at ws n s = record { words = ws; vel = n.vel; held = s.held; draw = drawn n.seed s.event_serial 0 }
 
 abbrev pub attack_cause : ℕ → Session → Cause
-attack_cause at s = record { serial = s.event_serial; at = at; kind = NoteOn }
+attack_cause at s = record { serial = s.event_serial; at = at; kind = NoteOn; held_secs = f0 }
 
 -- the note n of a rising gate: its regions are chosen, and then start in turn
 unfoldable pub note_started : Kit → ℕ → NoteState → ℕ → Both → Both

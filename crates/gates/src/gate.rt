@@ -64,6 +64,7 @@ fn attack_cause(s: Session, at: u64) -> Cause
         serial: s.event_serial,
         at,
         kind: player::start::Cause::NoteOn,
+        held_secs: 0.0,
     }
 }
 

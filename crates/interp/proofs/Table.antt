@@ -1,19 +1,17 @@
 -- The table is read inside it, and a tap by its place in the table is the definition's. Assumes nothing.
 -- Of a magnitude below 16, 512 times that is at most 8192.
-use Rattle.std.proofs.Common.{◌≡◌, ℕ, zero, suc, ◌+◌, ◌*◌, ◌^◌, ◌<◌, ◌≤◌, Bool, true, false, cond, not, T, ltb, List, sym, refl, ap, ◌∙◌, subst, true≢false, None, Some, arith, le→leb, ltb→lt, le-leb}
-use lib.Ieee.Back.{unsigned_back}
+use Rattle.std.proofs.Common.{◌≡◌, ℕ, zero, suc, ◌+◌, ◌*◌, ◌^◌, ◌<◌, ◌≤◌, Bool, true, false, cond, not, T, ltb, ◌≢◌, List, length, get_or, set, sym, refl, ap, ◌∙◌, subst, inl, inr, lt_irrefl, eq-or-lt_of_le, arith, ltb→lt, get_or-set_other, get_or-set_same, le-leb}
 use lib.Ieee.Fits.{down_pos}
 use lib.Ieee.Order.{round_mono}
-use lib.Ieee.{Float, nan, inf, fin, Format, binary32, prec, emax, low, up, down, lt, le, eq, mul, round, units, odd, is_nan, of_bits, to_unsigned, in_unsigned, in_float}
+use lib.Ieee.{Float, nan, inf, fin, Format, binary32, prec, emax, low, up, down, lt, le, eq, mul, round, units, odd, is_nan, of_bits, to_unsigned}
 use Rattle.exact.specs.Value.{plus}
 use Rattle.exact.specs.Single.{◌⊗◌, ◌⊖◌, single, f16, f512, f8193}
 use Rattle.exact.specs.Order.{magnitude}
-use Rattle.interp.specs.Sinc.{window_at, tapped}
-use Rattle.interp.specs.Places.{place_of, entry_of, part_of, weight_at, tapped_by, tap_place}
+use Rattle.interp.specs.Sinc.{window_at, crossings_of, tapped}
+use Rattle.interp.specs.Places.{place_of, entry_of, part_of, weight_at, tapped_by, Placed}
 use Rattle.interp.specs.Sinc.{Sums}
-use Rattle.interp.specs.declared.tap.TapPlace.{TapPlace}
+use Rattle.interp.specs.declared.sinc.SincSpan.{SincSpan}
 use Rattle.interp.proofs.Range.{Within, within}
-use Rattle.std.specs.Option.{is_some, unwrap_or}
 
 pub in_table : (u : Float) → T (plus u) → T (lt u f16) → Within 8192 (u ⊗ f512)
 unfolding lt mul of_bits
@@ -140,36 +138,39 @@ by-at false table v x s e = rw (e, last_entry)
 pub by_place : (table : List Float) (v x : Float) (s : Sums) → tapped_by table (entry_of v) (part_of v) x s ≡ tapped table v x s
 by_place table v x s = by-at (lt (magnitude v) f16) table v x s refl
 
--- ---- a tap of the size u that the window reaches
-module _ (v u : Float) (e : u ≡ magnitude v) (t : lt u f16 ≡ true) where
-  pub reached : T (lt (magnitude v) f16)
-  reached = subst (λ (x : Float). T (lt x f16)) e (yes t)
+-- ---- one place more
+module _ (span : SincSpan) (f : Float) (es : List ℕ) (gs : List Float) (k : ℕ) where
+  pub placed-none : Placed span f es gs 0
+  placed-none = record { entry = λ (j : ℕ) (h : j < 0). absurd (none j h); part = λ (j : ℕ) (h : j < 0). absurd (none j h) }
+    where
+      none : (j : ℕ) → j < 0 → ⊥
+      none j h = omega arith
 
-  pub place_is : u ⊗ f512 ≡ place_of v
-  place_is = place_inside v u reached e
+  pub placed-fewer : (j : ℕ) → j ≤ k → Placed span f es gs k → Placed span f es gs j
+  placed-fewer j a p =
+      record { entry = λ (t : ℕ) (h : t < j). p.entry t (omega arith); part = λ (t : ℕ) (h : t < j). p.part t (omega arith) }
 
-  pub entry-most : entry_of v ≤ 8192
-  unfolding place_of
-  entry-most = rw (true_of (lt (magnitude v) f16) reached) (in_table (magnitude v) (magnitude-plus v reached) reached).small
+  pub placed-more : (i : ℕ) (g : Float) → Placed span f es gs k → k < length es → k < length gs → i ≡ entry_of (crossings_of span f k) → g ≡ part_of (crossings_of span f k)
+      → Placed span f (set es k i) (set gs k g) (k + 1)
+  placed-more i g p a b q r =
+      record {
+        entry = below-more-at es (λ (j : ℕ) (x : ℕ). x ≡ entry_of (crossings_of span f j)) 0 i p.entry a q;
+        part = below-more-at gs (λ (j : ℕ) (x : Float). x ≡ part_of (crossings_of span f j)) nan g p.part b r;
+      }
+    where
+      other : (j : ℕ) → j < k → j ≢ k
+      other j s e = lt_irrefl k (subst (λ (z : ℕ). z < k) e s)
 
--- a tap that has a place, and one that has none
-pub placed : (v : Float) (t : TapPlace) → Some t ≡ tap_place v → (t ≡ record { entry = entry_of v; part = part_of v }) × (t.entry ≤ 8192)
-unfolding tap_place
-placed v t p = go (lt (magnitude v) f16) refl p
-  where
-    go : (b : Bool) → lt (magnitude v) f16 ≡ b → Some t ≡ cond b (Some (record { entry = entry_of v; part = part_of v })) None → (t ≡ record { entry = entry_of v; part = part_of v }) × (t.entry ≤ 8192)
-    go true e q =
-        let i : t ≡ record { entry = entry_of v; part = part_of v } = ap (λ o. unwrap_or o t) q in
-        (i, subst (λ (n : ℕ). n ≤ 8192) (sym (ap (λ (u : TapPlace). u.entry) i)) (entry-most v (magnitude v) refl e))
-    go false e q = absurd (true≢false (ap is_some q))
+      below-more-at : {A : Type 0} (l : List A) (P : ℕ → A → Type 0) (d y : A) → ((j : ℕ) → j < k → P j (get_or l j d)) → k < length l → P k y
+          → (j : ℕ) → j < k + 1 → P j (get_or (set l k y) j d)
+      below-more-at l P d y f h q j t = elim (eq-or-lt_of_le {n = j} {m = k} (omega arith)) [
+        | inl e ↦ subst (λ (z : ℕ). P z (get_or (set l k y) z d)) (sym e) (subst (P k) (sym (get_or-set_same l k y d h)) q)
+        | inr s ↦ subst (P j) (sym (get_or-set_other l k j y d (other j s))) (f j s)
+      ]
 
-pub missed : (v : Float) → None ≡ tap_place v → lt (magnitude v) f16 ≡ false
-unfolding tap_place
-missed v p = go (lt (magnitude v) f16) p
-  where
-    tap : TapPlace
-    tap = record { entry = entry_of v; part = part_of v }
-
-    go : (b : Bool) → None ≡ cond b (Some tap) None → b ≡ false
-    go true q = absurd (true≢false (sym (ap is_some q)))
-    go false q = refl
+  -- by the place y and its whole part w
+  pub placed-next : (n : ℕ) (y w : Float) (i : ℕ) → n ≡ k + 1 → y ≡ place_of (crossings_of span f k) → w ≡ single (to_unsigned 64 y) → i ≡ to_unsigned 64 y
+      → Placed span f es gs k → k < length es → k < length gs → Placed span f (set es k i) (set gs k (y ⊖ w)) n
+  placed-next n y w i e a b c p q r =
+      let t = split (crossings_of span f k) y w a b in
+      subst (λ (z : ℕ). Placed span f (set es k i) (set gs k (y ⊖ w)) z) (sym e) (placed-more i (y ⊖ w) p q r (c ∙ t.0) t.1)

@@ -1,13 +1,12 @@
 -- One tap more, and the last one. Assumes nothing.
-use Rattle.std.proofs.Common.{◌≡◌, ℕ, false, leb, ◌+◌, ◌-◌, ◌*◌, ◌≤◌, List, None, Some, refl, ap, ◌∙◌, le_antisymm, add-one, le-leb}
+use Rattle.std.proofs.Common.{◌≡◌, ℕ, false, leb, ◌+◌, ◌-◌, ◌*◌, ◌≤◌, List, refl, ap, ◌∙◌, le_antisymm, add-one, le-leb}
 use lib.Ieee.{Float}
 use Rattle.exact.specs.Single.{◌⊕◌, ◌⊗◌, f0}
 use Rattle.interp.specs.Points.{frame_at}
 use Rattle.interp.specs.Sinc.{Sums, crossings_of, tapped, taps, mean_of, sinc_at}
-use Rattle.interp.specs.Places.{entry_of, part_of, weight_at, tapped_by, tap_place}
+use Rattle.interp.specs.Places.{entry_of, part_of, weight_at, tapped_by}
 use Rattle.interp.specs.declared.sinc.SincSpan.{SincSpan}
-use Rattle.interp.specs.declared.tap.TapPlace.{TapPlace}
-use Rattle.interp.proofs.Table.{by_place, placed, missed}
+use Rattle.interp.proofs.Table.{by_place}
 
 -- ---- by its place in the table: a tap in the window, and one outside it
 module _ (table : List Float) (i : ℕ) (g x : Float) (s : Sums) where
@@ -30,20 +29,6 @@ module _ (table frames : List Float) (span : SincSpan) (n : ℕ) (f : Float) (k 
   pub more_by : (r : Sums) (i : ℕ) (g x : Float) → r ≡ tapped_by table i g x s → i ≡ entry_of (crossings_of span f k) → g ≡ part_of (crossings_of span f k)
       → x ≡ frame_at frames (n + 1 + k - span.half) → r ≡ taps table frames span n f (k + 1)
   more_by r i g x t p q y = more r (crossings_of span f k) x (t ∙ ap (λ (j : ℕ). tapped_by table j g x s) p ∙ ap (λ (h : Float). tapped_by table (entry_of (crossings_of span f k)) h x s) q ∙ by_place table (crossings_of span f k) x s) refl y
-
-  -- by the place in the window, and outside it
-  pub more_placed : (w x : Float) (t : TapPlace) → Some t ≡ tap_place (crossings_of span f k) → w ≡ weight_at table t.entry t.part
-      → x ≡ frame_at frames (n + 1 + k - span.half) → ◌≡◌ {A = Sums} (record { acc = s.acc ⊕ w ⊗ x; wsum = s.wsum ⊕ w }) (taps table frames span n f (k + 1))
-  more_placed w x t p q y =
-      let v = crossings_of span f k in
-      let h = placed v t p in
-      let i : t.entry ≡ entry_of v = ap (λ (u : TapPlace). u.entry) h.0 in
-      let g : t.part ≡ part_of v = ap (λ (u : TapPlace). u.part) h.0 in
-      more_by _ t.entry t.part x (in_window table t.entry t.part x s h.1 _ _ (rw q) (rw q)) i g y
-
-  pub more-none : None ≡ tap_place (crossings_of span f k) → s ≡ taps table frames span n f (k + 1)
-  unfolding tapped
-  more-none p = more s (crossings_of span f k) (frame_at frames (n + 1 + k - span.half)) (rw (missed (crossings_of span f k) p)) refl refl
 
   pub last : k ≤ 2 * span.half → 2 * span.half ≤ k → mean_of s ≡ sinc_at table frames span n f
   unfolding sinc_at

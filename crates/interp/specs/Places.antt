@@ -1,11 +1,11 @@
 -- Where a tap of the windowed sinc falls in the table. Definitions only.
-use Rattle.std.specs.Prelude.{ℕ, ◌+◌, cond, List, get_or, nat_le, Float, None, Option, Some}
+use Rattle.std.specs.Prelude.{◌≡◌, ℕ, ◌+◌, ◌<◌, cond, List, get_or, nat_le, slice_index, slice_index_or, Float}
 use Rattle.std.specs.Float.{nan}
 use Rattle.std.specs.Float.Ieee.{lt, to_unsigned}
 use Rattle.exact.specs.Single.{◌⊕◌, ◌⊖◌, ◌⊗◌, single, f16, f512, f8193}
 use Rattle.exact.specs.Order.{magnitude}
-use Rattle.interp.specs.Sinc.{Sums}
-use Rattle.interp.specs.declared.tap.TapPlace.{TapPlace}
+use Rattle.interp.specs.Sinc.{Sums, crossings_of}
+use Rattle.interp.specs.declared.sinc.SincSpan.{SincSpan}
 
 -- the place of what is v zero crossings away, in entries of the table; behind the last one where the window does not reach that far
 unfoldable pub place_of : Float → Float
@@ -31,6 +31,7 @@ tapped_by table i g x s =
     let w = weight_at table i g in
     cond (nat_le i 8192) (record { acc = s.acc ⊕ w ⊗ x; wsum = s.wsum ⊕ w }) s
 
--- both, where the window reaches that far
-unfoldable pub tap_place : Float → Option TapPlace
-tap_place v = cond (lt (magnitude v) f16) (Some (record { entry = entry_of v; part = part_of v })) None
+-- the places of the first k taps
+pub record Placed (span : SincSpan) (f : Float) (entries : List ℕ) (parts : List Float) (k : ℕ) : Type 0 where
+  pub entry : (j : ℕ) → j < k → slice_index entries j ≡ entry_of (crossings_of span f j)
+  pub part : (j : ℕ) → j < k → slice_index_or parts j nan ≡ part_of (crossings_of span f j)

@@ -83,7 +83,7 @@ impl<'a> Kernel<'a> {
     {
         let at = Place::of(p);
         match self.kind {
-            Interp::Linear => channels.each(|x| linear(x, at)),
+            Interp::Linear => channels.each(|x| linear(x, at.n, at.f)),
             Interp::Hermite => channels.each(|x| hermite(x, at)),
             Interp::Sinc => sinc::sinc(self, channels, at),
         }

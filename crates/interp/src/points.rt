@@ -1,5 +1,5 @@
 // The kernels of two and of four points.
-ghost use Rattle.std.specs.Prelude.{◌≡◌, not, ◌&&◌};
+ghost use Rattle.std.specs.Prelude.{◌≡◌, ◌≤◌, not, ◌&&◌};
 ghost use Rattle.std.specs.Float.Ieee.{lt};
 ghost use Rattle.exact.specs.Single.{f0, f1, f2};
 ghost use Rattle.interp.specs.Points.{near_weight, far_weight, weight3, frame_at, linear_at, weights_at, hermite_at};
@@ -18,14 +18,15 @@ pub fn frame_at(frames: &[f32], n: usize) -> f32
     frames.get(n.wrapping_sub(PCM_PAD)).copied().unwrap_or(0.0)
 }
 
-// Between the frame in a place and the next one.
+// Between the frames in the places n and n + 1, by f.
 #[tactic(auto, unfolding(crate::specs::Points::linear_at))]
-pub fn linear(frames: &[f32], at: Place) -> f32
-    ensures { result ≡ linear_at frames.now at.n at.f }
+pub fn linear(frames: &[f32], n: usize, f: f32) -> f32
+    requires { n ≤ 8589934634 }
+    ensures { result ≡ linear_at frames.now n f }
 {
-    let a = frame_at(frames, at.n);
-    let b = frame_at(frames, at.n + 1);
-    a + at.f * (b - a)
+    let a = frame_at(frames, n);
+    let b = frame_at(frames, n + 1);
+    a + f * (b - a)
 }
 
 // The weight below the distance 1.

@@ -3,9 +3,7 @@ ghost use Rattle.std.specs.Prelude.{◌≡◌, ◌≤◌, T, if◌then◌else◌
 ghost use Rattle.std.specs.Float.Ieee.{le, lt, to_unsigned};
 ghost use Rattle.exact.specs.Value.{plus};
 ghost use Rattle.exact.specs.Single.{single, f0, f1, f8193};
-ghost use Rattle.interp.specs.Places.{tap_place, weight_at};
-
-use exact::order::abs_f32;
+ghost use Rattle.interp.specs.Places.{weight_at};
 
 // The entry at or before the tap, and the part of the way to the next one.
 #[derive(Clone, Copy)]
@@ -15,24 +13,6 @@ pub struct TapPlace {
 }
 
 impl TapPlace {
-    // An entry is small, so that it is an i32, too, which the machine makes of a float in one operation.
-    // That of what is v zero crossings away, where the window reaches that far.
-    #[tactic(auto, unfolding(crate::specs::Places::tap_place))]
-    pub(crate) fn of(v: f32) -> Option<TapPlace>
-        ensures { result ≡ tap_place v }
-    {
-        let u = abs_f32(v);
-        if u < 16.0 {
-            let y = u * 512.0;
-            let entry = whole(y);
-            return Some(TapPlace {
-                entry: (entry as i32) as u32,
-                part: y - entry,
-            });
-        }
-        None
-    }
-
     // The weight by the table between the entry and the next one.
     #[tactic(auto, unfolding(crate::specs::Places::weight_at))]
     pub fn weight(self, table: &[f32; 8194]) -> f32

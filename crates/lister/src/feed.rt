@@ -1,8 +1,6 @@
 // Standard input line by line, through a buffer that is filled again when less than a whole line may be left in it.
 ghost use Rattle.std.specs.Prelude.{◌≡◌, ◌≤◌};
 
-use super::text::part;
-
 // No text has more lines.
 pub const LAST: u64 = 0x8000_0000_0000_0000;
 
@@ -25,7 +23,7 @@ enum Last {
 }
 
 // The bytes from..to of the buffer are still to be taken; `ended` where no more follow.
-#[derive(Drop)]
+#[derive(Clone, Copy)]
 pub struct Feed {
     buf: [u8; 65536],
     from: usize,
@@ -89,7 +87,7 @@ impl Feed {
     }
 
     // What is left of a script is passed over.
-    fn skip(&mut self) {
+    pub(crate) fn skip(&mut self) {
         for _ in 0..LAST {
             if self.last != Last::Line {
                 return;
@@ -99,22 +97,7 @@ impl Feed {
     }
 
     // Whether another script follows.
-    fn goes_on(&self) -> bool {
+    pub(crate) fn goes_on(&self) -> bool {
         self.last == Last::Parting
-    }
-}
-
-// Performs each script of an input that has many, and parts what they print likewise.
-pub fn replay<P: Fn(&mut Feed) + Drop>(perform: P)
-    requires { P.IsAlwaysCallable perform }
-{
-    let mut feed = Feed::new(Scripts::Many);
-    for _ in 0..LAST {
-        perform(&mut feed);
-        feed.skip();
-        if !feed.goes_on() {
-            return;
-        }
-        part();
     }
 }

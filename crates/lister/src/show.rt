@@ -1,80 +1,47 @@
 // What both listers print.
 use super::text::Text;
 use session::{PlayerRecord, Session};
-use std::fmt;
 
-// A value, or `-` for none.
-#[derive(Drop)]
-struct OrNone<T>(Option<T>);
-
-impl<T: fmt::Display> fmt::Display for OrNone<T> {
-    fn fmt<W: fmt::Write>(&self, f: &mut fmt::Formatter<W>) -> fmt::Result {
-        match &self.0 {
-            None => write!(f, "-"),
-            Some(x) => write!(f, "{x}"),
-        }
-    }
-}
-
-// voice, slot, region, group, off_by
-#[derive(Drop)]
-struct Who<'a>(&'a PlayerRecord);
-
-impl fmt::Display for Who<'_> {
-    fn fmt<W: fmt::Write>(&self, f: &mut fmt::Formatter<W>) -> fmt::Result {
-        let r = self.0;
-        write!(
-            f,
-            "{},{},{},{},{}",
-            r.voice,
-            r.slot,
-            r.region,
-            r.group,
-            OrNone(r.off_by)
-        )
+// step, voice, slot, region, group, off_by
+fn put_who(text: &mut Text, r: &PlayerRecord, step: u64) {
+    text.number(step);
+    text.number(r.voice);
+    text.number(r.slot as u64);
+    text.number(r.region as u64);
+    text.signed(r.group);
+    match r.off_by {
+        None => text.none(),
+        Some(group) => text.signed(group),
     }
 }
 
 // note, vel, on_note, start, offed, off_at
-#[derive(Drop)]
-struct What<'a>(&'a PlayerRecord);
-
-impl fmt::Display for What<'_> {
-    fn fmt<W: fmt::Write>(&self, f: &mut fmt::Formatter<W>) -> fmt::Result {
-        let r = self.0;
-        let on_note = r.on_note as u8;
-        let offed = r.offed as u8;
-        write!(
-            f,
-            "{},{},{on_note},{},{offed},{}",
-            r.note,
-            r.vel,
-            r.start,
-            OrNone(r.off_at)
-        )
+fn put_what(text: &mut Text, r: &PlayerRecord) {
+    text.number(r.note as u64);
+    text.number(r.vel as u64);
+    text.flag(r.on_note);
+    text.number(r.start);
+    text.flag(r.offed);
+    match r.off_at {
+        None => text.none(),
+        Some(at) => text.number(at),
     }
 }
 
 // A K line for each record.
 pub fn put_records(text: &mut Text, s: &Session, step: u64) {
     for r in &s.players[..s.count.min(512)] {
-        text.line(format_args!("K,{step},{},{}", Who(r), What(r)));
+        text.begin(b'K');
+        put_who(text, r, step);
+        put_what(text, r);
+        text.end();
     }
 }
 
-// What a T line says in both listers.
-#[derive(Drop)]
-pub struct Totals<'a> {
-    pub step: u64,
-    pub session: &'a Session,
-}
-
-impl fmt::Display for Totals<'_> {
-    fn fmt<W: fmt::Write>(&self, f: &mut fmt::Formatter<W>) -> fmt::Result {
-        write!(
-            f,
-            "T,{},{},{}",
-            self.step, self.session.count, self.session.held
-        )
-    }
+// What a T line says in both listers; its end is the caller's.
+pub fn put_totals(text: &mut Text, s: &Session, step: u64) {
+    text.begin(b'T');
+    text.number(step);
+    text.number(s.count as u64);
+    text.number(s.held as u64);
 }

@@ -36,6 +36,14 @@ impl<const FRAMES: usize> Store<FRAMES> {
         }
     }
 
+    // As if nothing had been added.
+    pub fn forget(&mut self) {
+        self.regions.clear();
+        self.samples.clear();
+        self.frames.clear();
+        self.table.fill(0.0);
+    }
+
     // One that finds no room stands after a first one too many, and changes no answer.
     pub fn add_region(&mut self, words: [u32; REGION_WORDS]) {
         let _ = self.regions.try_push(words);

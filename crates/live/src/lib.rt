@@ -35,6 +35,8 @@ fn place_of(voices: &[Option<SampleVoice>; 16], id: Option<u64>) -> Option<usize
         .position(|v| v.as_ref().map(|x| x.voice) == id)
 }
 
+// The calls are not compiled into their callers: a function's memory is cleared where it is entered, and that of a call is for a step
+// alone and not for each line that is read.
 impl<const FRAMES: usize> Live<FRAMES> {
     // A call of its own, so that what it copies while it is made takes no room on the stack later.
     #[inline(never)]
@@ -48,6 +50,17 @@ impl<const FRAMES: usize> Live<FRAMES> {
         }
     }
 
+    // As if nothing had been done.
+    pub fn forget(&mut self) {
+        self.store.forget();
+        self.program = None;
+        self.session = fresh_session();
+        for v in &mut self.voices {
+            *v = None;
+        }
+        self.step = 0;
+    }
+
     // The program, which a line may change before the first voice alone.
     pub fn unbound(&mut self) -> Result<&mut Store<FRAMES>, Refusal> {
         if self.program.is_some() {
@@ -57,6 +70,7 @@ impl<const FRAMES: usize> Live<FRAMES> {
     }
 
     // A new voice. The first one binds the program.
+    #[inline(never)]
     pub fn make(&mut self, rate: f32) -> Result<(), Refusal> {
         let program = match self.program {
             None => self.store.bind()?,
@@ -92,6 +106,7 @@ impl<const FRAMES: usize> Live<FRAMES> {
     }
 
     // The voice after a block.
+    #[inline(never)]
     pub fn block(
         &mut self,
         b: PlayLine,
@@ -124,6 +139,7 @@ impl<const FRAMES: usize> Live<FRAMES> {
     }
 
     // Whether the voice is finished.
+    #[inline(never)]
     pub fn ask(&mut self, id: u64) -> Result<bool, Refusal> {
         let (_, v) = self.called(id)?;
         let store = &self.store;
@@ -135,12 +151,14 @@ impl<const FRAMES: usize> Live<FRAMES> {
     }
 
     // The voice after its reset.
+    #[inline(never)]
     pub fn reset(&mut self, id: u64) -> Result<SampleVoice, Refusal> {
         let (k, v) = self.called(id)?;
         let c = reset(self.session, v);
         self.keep(k, c)
     }
 
+    #[inline(never)]
     pub fn close(&mut self, id: u64) -> Result<(), Refusal> {
         let (k, v) = self.called(id)?;
         let c = close(self.session, v);

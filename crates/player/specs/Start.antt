@@ -36,14 +36,10 @@ use Rattle.player.specs.declared.start.Cause.{Cause}
 use Rattle.player.specs.declared.start.Cause.TheVariants.{NoteOn, Release}
 use Rattle.player.specs.Pitch.{pitched}
 
--- what a note-on is, and for how long the note was held whose end is a start's cause
+-- what a note-on is
 abbrev pub is_note_on : Cause → Bool
 is_note_on NoteOn = true
-is_note_on (Release s) = false
-
-abbrev pub held_secs : Cause → Float
-held_secs NoteOn = f0
-held_secs (Release s) = s
+is_note_on Release = false
 
 -- the sample of a region, if it has one
 abbrev pub sample_for : Option ℕ → Sample → Option Sample
@@ -104,7 +100,7 @@ drawn_volume v seed serial region =
 unfoldable pub volume_of : Level → Trigger → Note → Event → Float
 volume_of v t n e =
     let x = drawn_volume v n.seed e.serial e.region in
-    cond (is_release t) (x ⊖ v.rt_decay_db_per_s ⊗ held_secs e.cause) x
+    cond (is_release t) (x ⊖ v.rt_decay_db_per_s ⊗ e.held_secs) x
 
 -- 20.0
 abbrev pub f20 : Float

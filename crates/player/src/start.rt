@@ -1,7 +1,7 @@
 // A player at its start: a region, a note and a rate.
 ghost use Rattle.std.specs.Prelude.{◌≡◌, ◌≤◌, ◌<◌, T};
 ghost use Rattle.program.specs.Valid.{loop_in_order};
-ghost use Rattle.player.specs.Start.{is_note_on, held_secs, sample_for, named, width_of, frames_of, rate_of, is_stereo, last_of, fade_frames, loop_at, has_loop, loop_of, drawn_volume, volume_of, gain_of, is_one_shot, hot_at, cold_at, started_player};
+ghost use Rattle.player.specs.Start.{is_note_on, sample_for, named, width_of, frames_of, rate_of, is_stereo, last_of, fade_frames, loop_at, has_loop, loop_of, drawn_volume, volume_of, gain_of, is_one_shot, hot_at, cold_at, started_player};
 
 use super::pitch::set_pitch;
 use super::{Cold, Fade, Hot, LoopRt, Player};
@@ -30,11 +30,11 @@ pub struct Note {
     pub interp: Interp,
 }
 
-// What starts a player: a note-on, or the end of a note that was held this long.
+// What starts a player: a note-on, or a note's end.
 #[derive(Clone, Copy)]
 pub enum Cause {
     NoteOn,
-    Release { held_secs: f32 },
+    Release,
 }
 
 impl Cause {
@@ -42,16 +42,6 @@ impl Cause {
         ensures { result ≡ is_note_on self }
     {
         matches!(self, Cause::NoteOn)
-    }
-
-    // A region that fires on a release has its decay from the time that its note was held; at a note-on that is none.
-    fn held_secs(self) -> f32
-        ensures { result ≡ held_secs self }
-    {
-        match self {
-            Cause::NoteOn => 0.0,
-            Cause::Release { held_secs } => held_secs,
-        }
     }
 }
 
@@ -61,6 +51,8 @@ pub struct Event {
     pub region: u32,
     pub serial: u64,
     pub cause: Cause,
+    // For how long the note was held. It is no part of the cause: a region that fires on a release has its decay from it at a note-on too.
+    pub held_secs: f32,
 }
 
 // The sample of a region, if it has one.
@@ -178,7 +170,7 @@ fn volume_of(level: Level, trigger: Trigger, note: Note, event: Event) -> f32
 {
     let v = drawn_volume(level, note.seed, event.serial, event.region);
     if trigger.is_release() {
-        return v - level.rt_decay_db_per_s * event.cause.held_secs();
+        return v - level.rt_decay_db_per_s * event.held_secs;
     }
     v
 }

@@ -226,8 +226,8 @@ pub within : (b : Option (List Float)) (k n : ℕ) → k < n → IfSome b (λ xs
 within None k n l h = tt
 within (Some xs) k n l h = omega arith
 
-pub reaches : (s : Sound) (m n : ℕ) → m ≤ n → Reaches s n → Reaches s m
-reaches s m n l r = (omega (arith, r.0), go s.b r.1)
+pub reaches : (a : List Float) (b : Option (List Float)) (m n : ℕ) → m ≤ n → Reaches a b n → Reaches a b m
+reaches a b m n l r = (omega (arith, r.0), go b r.1)
   where
     go : (b : Option (List Float)) → IfSome b (λ xs. n ≤ length xs) → IfSome b (λ xs. m ≤ length xs)
     go None h = tt
@@ -349,10 +349,10 @@ module _ (c : Cold) (slots : List FilterShape) (s : Sound) (h : Hot) (lp : Optio
     from = record { hot = h; states = states; left = outL; right = outR; done = false }
 
     abbrev share_l : ℕ → Float
-    share_l = plain_share (c.gain ⊗ h.env.value) c.matrix.ll c.matrix.rl s m
+    share_l = plain_share (c.gain ⊗ h.env.value) c.matrix.ll c.matrix.rl s.a s.b m
 
     abbrev share_r : ℕ → Float
-    share_r = plain_share (c.gain ⊗ h.env.value) c.matrix.lr c.matrix.rr s m
+    share_r = plain_share (c.gain ⊗ h.env.value) c.matrix.lr c.matrix.rr s.a s.b m
 
     run-plain : (k : ℕ) → k ≤ n → run_from c slots s j k from ≡ record { hot = hot_at h m k; states = states; left = added_run share_l j k outL; right = added_run share_r j k outR; done = false }
     unfolding run_from added_run hot_at
@@ -383,15 +383,15 @@ unfolding ne
 equals x y e = not-false (eq x y) e
 
 -- ---- one stored frame more
-pub one_more : (g x y : Float) (s : Sound) (p j i : ℕ) (out₀ out out' : List Float) (l r v : Float)
-    → out ≡ added_run (plain_share g x y s p) j i out₀
+pub one_more : (g x y : Float) (a : List Float) (b : Option (List Float)) (p j i : ℕ) (out₀ out out' : List Float) (l r v : Float)
+    → out ≡ added_run (plain_share g x y a b p) j i out₀
     → out' ≡ added out (j + i) v
     → v ≡ share g x y l r
-    → l ≡ get_or s.a (p + i) f0
-    → r ≡ second_at s.b (p + i)
-    → out' ≡ added_run (plain_share g x y s p) j (i + 1) out₀
+    → l ≡ get_or a (p + i) f0
+    → r ≡ second_at b (p + i)
+    → out' ≡ added_run (plain_share g x y a b p) j (i + 1) out₀
 unfolding added_run
-one_more g x y s p j i out₀ out out' l r v e q d f h = rw (q, d, f, h, e, add-one)
+one_more g x y a b p j i out₀ out out' l r v e q d f h = rw (q, d, f, h, e, add-one)
 
 -- ---- no frame
 pub no_run : (c : Cold) (slots : List FilterShape) (s : Sound) (j : ℕ) (x : Run) → x ≡ run_from c slots s j (j - j) x

@@ -63,12 +63,12 @@ second_at None q = f0
 second_at (Some b) q = get_or b q f0
 
 -- every channel has n frames
-abbrev pub Reaches : Sound → ℕ → Type 0
-Reaches s n = (n ≤ length s.a) × IfSome s.b (λ b. n ≤ length b)
+abbrev pub Reaches : List Float → Option (List Float) → ℕ → Type 0
+Reaches a b n = (n ≤ length a) × IfSome b (λ xs. n ≤ length xs)
 
 -- what an output gets of the stored frame i behind frame p
-abbrev pub plain_share : Float → Float → Float → Sound → ℕ → ℕ → Float
-plain_share g x y s p i = share g x y (get_or s.a (p + i) f0) (second_at s.b (p + i))
+abbrev pub plain_share : Float → Float → Float → List Float → Option (List Float) → ℕ → ℕ → Float
+plain_share g x y a b p i = share g x y (get_or a (p + i) f0) (second_at b (p + i))
 
 -- f 0 to f (k - 1), added to an output from frame j on
 unfoldable pub added_run : (ℕ → Float) → ℕ → ℕ → List Float → List Float
@@ -81,11 +81,11 @@ run_from c slots s j zero x = x
 run_from c slots s j (suc k) x = run_one c slots s (j + k) (run_from c slots s j k x)
 
 -- Frames j to r.next of both outputs are what a run of the player gives, and of the player it changes the position alone. Filters and their
--- states have no part in it.
-pub record Goes (c : Cold) (h : Hot) (s : Sound) (j : ℕ) (left right : List Float) (r : Rested) (left' right' : List Float) : Type 0 where
+-- states have no part in it, nor has the sinc table.
+pub record Goes (c : Cold) (h : Hot) (a : List Float) (b : Option (List Float)) (j : ℕ) (left right : List Float) (r : Rested) (left' right' : List Float) : Type 0 where
   pub from : j ≤ r.next
   pub to : r.next ≤ length left
   pub position : Position r.pos
-  pub runs : (slots : List FilterShape) (states : List Float)
+  pub runs : (slots : List FilterShape) (states table : List Float)
       → ◌≡◌ {A = Run} (record { hot = at_pos r.pos h; states = states; left = left'; right = right'; done = false })
-      (run_from c slots s j (r.next - j) (record { hot = h; states = states; left = left; right = right; done = false }))
+      (run_from c slots (record { a = a; b = b; table = table }) j (r.next - j) (record { hot = h; states = states; left = left; right = right; done = false }))

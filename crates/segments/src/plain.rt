@@ -1,15 +1,14 @@
 // Frames that are read as they are stored, under an envelope that rests and through no filter: a hit at its own pitch from its attack to its
 // release, the usual player. Many of them are added to both outputs at once, and the position moves once for all.
-ghost use Rattle.std.specs.Prelude.{◌≡◌, ℕ, pos, ◌≤◌, ◌<◌, ◌+◌, length, IfSome, option_map};
+ghost use Rattle.std.specs.Prelude.{◌≡◌, List, ℕ, pos, ◌≤◌, ◌<◌, ◌+◌, Float, Option, length, IfSome, option_map};
 ghost use Rattle.std.specs.Int.Signed.{lt_z};
 ghost use Rattle.exact.specs.Single.{f0};
 ghost use Rattle.interp.specs.Position.{Position, double};
 ghost use Rattle.player.specs.Bounds.{ColdOk};
-ghost use Rattle.segments.specs.Source.{sound_of};
 ghost use Rattle.segments.specs.Plain.{is_resting, is_steady, is_plain, is_silent, plain_end, FadeSmall, Reaches, second_at, added_run, plain_share, Goes};
 
 use super::segment::{add_at, share_of};
-use super::source::{Lent, looping};
+use super::source::looping;
 use envelope::{EgState, Env};
 use exact::pair::Pair;
 use interp::position::frame_index;
@@ -81,12 +80,12 @@ fn plain_end(lp: Option<LoopRt>, last: u32) -> usize
 }
 
 // How many frames every channel has.
-fn channel_len(lent: Lent<'_>) -> usize
-    ensures { Reaches (sound_of lent.entry) result }
+fn channel_len(a: &[f32], b: Option<&[f32]>) -> usize
+    ensures { Reaches a.now (option_map (λ s. s.now) b.entry) result }
 {
-    match lent.b {
-        Some(b) => lent.a.len().min(b.len()),
-        None => lent.a.len(),
+    match b {
+        Some(b) => a.len().min(b.len()),
+        None => a.len(),
     }
 }
 
@@ -110,13 +109,23 @@ fn second_at(b: Option<&[f32]>, q: usize) -> f32
 
 // k stored frames from frame p on, each by its share, added to an output from frame j on. It counts places, as the run of frames in its clause
 // does: of slices cut for it each call would have to put its output together again.
-fn add_plain(out: &mut [f32], j: usize, k: usize, lent: Lent<'_>, p: usize, g: f32, x: f32, y: f32)
-    requires { (j + k ≤ length out.old) × Reaches (sound_of lent) (p + k) }
-    ensures { out.new ≡ added_run (plain_share g x y (sound_of lent.entry) p) j k out.old }
+fn add_plain(
+    out: &mut [f32],
+    j: usize,
+    k: usize,
+    a: &[f32],
+    b: Option<&[f32]>,
+    p: usize,
+    g: f32,
+    x: f32,
+    y: f32,
+)
+    requires { (j + k ≤ length out.old) × Reaches a.now (option_map (λ s. s.now) b) (p + k) }
+    ensures { out.new ≡ added_run (plain_share g x y a.now (option_map (λ s. s.now) b.entry) p) j k out.old }
 {
     for i in 0..k {
-        let l = lent.a[p + i];
-        let r = second_at(lent.b, p + i);
+        let l = a[p + i];
+        let r = second_at(b, p + i);
         add_at(out, j + i, share_of(g, x, y, Pair { l, r }));
     }
 }
@@ -140,17 +149,10 @@ fn is_silent(h: Hot, c: Cold) -> bool
     c.silent && is_steady(h, c)
 }
 
-// All frames from j on, where they are silence.
-fn play_silent(
-    h: Hot,
-    c: Cold,
-    lent: Lent<'_>,
-    out_l: &mut [f32],
-    out_r: &mut [f32],
-    j: usize,
-) -> Rested
+// All frames from j on, where they are silence, whatever the channels.
+fn play_silent(h: Hot, c: Cold, out_l: &mut [f32], out_r: &mut [f32], j: usize) -> Rested
     requires { Position h.pos × (j ≤ length out_l.old) × (length out_r.old ≡ length out_l.old) }
-    ensures { Goes c h (sound_of lent.entry) j out_l.old out_r.old result out_l.new out_r.new }
+    ensures { (a : List Float) (b : Option (List Float)) → Goes c h a b j out_l.old out_r.old result out_l.new out_r.new }
 {
     let n = out_l.len();
     if !is_silent(h, c) {
@@ -174,13 +176,14 @@ fn play_silent(
 fn play_stored(
     h: Hot,
     c: Cold,
-    lent: Lent<'_>,
+    a: &[f32],
+    b: Option<&[f32]>,
     out_l: &mut [f32],
     out_r: &mut [f32],
     j: usize,
 ) -> Rested
     requires { ColdOk c × Position h.pos × (j ≤ length out_l.old) × (length out_r.old ≡ length out_l.old) }
-    ensures { Goes c h (sound_of lent.entry) j out_l.old out_r.old result out_l.new out_r.new }
+    ensures { Goes c h a.now (option_map (λ s. s.now) b.entry) j out_l.old out_r.old result out_l.new out_r.new }
 {
     let none = Rested {
         pos: h.pos,
@@ -193,14 +196,14 @@ fn play_stored(
         return none;
     };
     let end = plain_end(looping(h.env, c.loop_mode, c.lp), c.last);
-    let k = plain_count(end, channel_len(lent), p, out_l.len() - j);
+    let k = plain_count(end, channel_len(a, b), p, out_l.len() - j);
     if k == 0 {
         return none;
     }
     let gain = c.gain * h.env.value;
     let m = c.matrix;
-    add_plain(out_l, j, k, lent, p, gain, m.ll, m.rl);
-    add_plain(out_r, j, k, lent, p, gain, m.lr, m.rr);
+    add_plain(out_l, j, k, a, b, p, gain, m.ll, m.rl);
+    add_plain(out_r, j, k, a, b, p, gain, m.lr, m.rr);
     Rested {
         pos: (p + k) as f64,
         next: j + k,
@@ -212,16 +215,17 @@ fn play_stored(
 pub fn play_plain(
     h: Hot,
     c: Cold,
-    lent: Lent<'_>,
+    a: &[f32],
+    b: Option<&[f32]>,
     out_l: &mut [f32],
     out_r: &mut [f32],
     j: usize,
 ) -> Rested
     requires { ColdOk c × Position h.pos × (j ≤ length out_l.old) × (length out_r.old ≡ length out_l.old) }
-    ensures { Goes c h (sound_of lent.entry) j out_l.old out_r.old result out_l.new out_r.new }
+    ensures { Goes c h a.now (option_map (λ s. s.now) b.entry) j out_l.old out_r.old result out_l.new out_r.new }
 {
     if c.silent {
-        return play_silent(h, c, lent, out_l, out_r, j);
+        return play_silent(h, c, out_l, out_r, j);
     }
-    play_stored(h, c, lent, out_l, out_r, j)
+    play_stored(h, c, a, b, out_l, out_r, j)
 }

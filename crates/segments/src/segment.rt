@@ -172,7 +172,7 @@ fn frames(
     while j < n {
         let was = h;
         let same = cold;
-        let rested = play_plain(was, same, lent, out_l, out_r, j);
+        let rested = play_plain(was, same, lent.a, lent.b, out_l, out_r, j);
         h.pos = rested.pos;
         j = rested.next;
         let mut count = 0usize;

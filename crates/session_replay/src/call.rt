@@ -1,7 +1,6 @@
 // The calls of the session.
-use super::fields::Fields;
+use super::fields::{Fields, byte, group, option, word};
 use session::{Session, Slots, Start, Window};
-use std::str::FromStr;
 
 #[derive(Clone, Copy)]
 pub enum Call {
@@ -43,22 +42,18 @@ pub enum Trigger {
     Legato,
 }
 
-impl FromStr for Trigger {
-    type Err = ();
-
-    fn from_str(word: &str) -> Result<Trigger, ()> {
-        match word {
-            "0" => Ok(Trigger::Attack),
-            "1" => Ok(Trigger::Release),
-            "2" => Ok(Trigger::ReleaseKey),
-            "3" => Ok(Trigger::First),
-            "4" => Ok(Trigger::Legato),
-            _ => Err(()),
+impl Trigger {
+    // Any other number lets a region start, as an attack does.
+    fn of(n: u64) -> Trigger {
+        match n {
+            1 => Trigger::Release,
+            2 => Trigger::ReleaseKey,
+            3 => Trigger::First,
+            4 => Trigger::Legato,
+            _ => Trigger::Attack,
         }
     }
-}
 
-impl Trigger {
     // Whether it lets a region start; a release region asks for its attack.
     fn fires(self, s: Session, attack: Window) -> bool {
         match self {
@@ -71,27 +66,27 @@ impl Trigger {
 }
 
 impl Attempt {
-    fn read(fields: &mut Fields<'_>) -> Option<Attempt> {
-        let voice = fields.value()?;
-        Some(Attempt {
-            slot: fields.value()?,
+    fn read(fields: Fields) -> Attempt {
+        let f = fields.numbers;
+        Attempt {
+            slot: word(f[1]),
             start: Start {
-                voice,
-                region: fields.value()?,
-                group: fields.value::<u32>()?.cast_signed(),
-                off_by: fields.option::<u32>()?.map(|w| w.cast_signed()),
-                note: fields.value()?,
-                vel: fields.value()?,
-                on_note: fields.flag()?,
+                voice: f[0],
+                region: word(f[2]),
+                group: group(f[3]),
+                off_by: option(f[4]).map(group),
+                note: byte(f[5]),
+                vel: byte(f[6]),
+                on_note: f[7] == 1,
                 serial: 0,
-                at: fields.value()?,
-                note_polyphony: fields.option()?,
-                polyphony: fields.option()?,
+                at: f[8],
+                note_polyphony: option(f[9]).map(word),
+                polyphony: option(f[10]).map(word),
             },
-            entered: fields.flag()?,
-            trigger: fields.value()?,
-            window: fields.window()?,
-        })
+            entered: f[11] != 0,
+            trigger: Trigger::of(f[12]),
+            window: fields.window(),
+        }
     }
 
     fn made(self, s: Session) -> Session {
@@ -117,25 +112,26 @@ fn take_offs(s: Session, voice: u64) -> Session {
 }
 
 impl Call {
-    // None of a line that is no call.
-    pub fn read(letter: &str, fields: &mut Fields<'_>) -> Option<Call> {
+    // None of a letter that is no call's.
+    pub fn read(letter: u8, fields: Fields) -> Option<Call> {
+        let f = fields.numbers;
         match letter {
-            "V" => Some(Call::Voice),
-            "N" => Some(Call::NoteOn),
-            "M" => Some(Call::NoteOff),
-            "W" => Some(Call::Event),
-            "Q" => Some(Call::Sequence {
-                region: fields.value()?,
-                length: fields.value()?,
-                position: fields.value()?,
+            b'V' => Some(Call::Voice),
+            b'N' => Some(Call::NoteOn),
+            b'M' => Some(Call::NoteOff),
+            b'W' => Some(Call::Event),
+            b'Q' => Some(Call::Sequence {
+                region: word(f[0]),
+                length: word(f[1]),
+                position: word(f[2]),
             }),
-            "S" => Attempt::read(fields).map(Call::Attempt),
-            "F" => fields.value().map(Call::TakeOffs),
-            "C" => fields.value().map(Call::Collect),
-            "G" => Some(Call::Remove(fields.value()?, fields.slots(1)?)),
-            "X" => Some(Call::End(fields.value()?, fields.slots(1)?)),
-            "Z" => Some(Call::Reset(fields.value()?, fields.flag()?)),
-            "D" => Some(Call::Close(fields.value()?, fields.flag()?)),
+            b'S' => Some(Call::Attempt(Attempt::read(fields))),
+            b'F' => Some(Call::TakeOffs(f[0])),
+            b'C' => Some(Call::Collect(f[0])),
+            b'G' => Some(Call::Remove(f[0], fields.slot())),
+            b'X' => Some(Call::End(f[0], fields.slot())),
+            b'Z' => Some(Call::Reset(f[0], f[1] == 1)),
+            b'D' => Some(Call::Close(f[0], f[1] == 1)),
             _ => None,
         }
     }

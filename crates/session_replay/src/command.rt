@@ -1,6 +1,6 @@
 // What the lines mean, and the session that they act on.
 use super::call::Call;
-use super::fields::Fields;
+use super::fields::{Fields, word};
 use super::show;
 use session::{Session, Slots};
 use std::io;
@@ -41,44 +41,41 @@ pub struct Replay {
 }
 
 impl Command {
-    // None of a line that says nothing.
-    pub fn read(line: &str) -> Option<Command> {
-        let mut fields = Fields::new(line);
-        match fields.word()? {
-            "I" => Some(Command::Fresh),
-            "J" => Setting::read(&mut fields).map(Command::Set),
-            "P" => Some(Command::Print),
-            "8" => Form::read(&mut fields).map(Command::Test),
-            letter => Call::read(letter, &mut fields).map(Command::Call),
+    // None of a letter that says nothing.
+    pub fn read(letter: u8, fields: Fields) -> Option<Command> {
+        match letter {
+            b'I' => Some(Command::Fresh),
+            b'J' => Some(Command::Set(Setting::read(fields))),
+            b'P' => Some(Command::Print),
+            b'8' => Some(Command::Test(Form::read(fields))),
+            _ => Call::read(letter, fields).map(Command::Call),
         }
     }
 }
 
 impl Form {
-    fn read(fields: &mut Fields<'_>) -> Option<Form> {
-        let regions = fields.value()?;
-        let voice = fields.value()?;
-        let count = fields.value()?;
-        Some(Form {
-            regions,
-            voice,
-            slots: fields.slots(count)?,
-        })
+    fn read(fields: Fields) -> Form {
+        Form {
+            regions: word(fields.numbers[0]),
+            voice: fields.numbers[1],
+            slots: fields.slots(),
+        }
     }
 }
 
 impl Setting {
-    fn read(fields: &mut Fields<'_>) -> Option<Setting> {
-        let what = fields.word()?;
-        let place = fields.value()?;
-        match what {
-            "0" => fields.value().map(Setting::Records),
-            "1" => fields.value().map(Setting::Voices),
-            "2" => fields.value().map(Setting::Held),
-            "3" => fields.value().map(|id| Setting::Id { place, id }),
-            "4" => fields.value().map(Setting::Serial),
-            "5" => fields.value().map(Setting::NextVoice),
-            _ => None,
+    fn read(fields: Fields) -> Setting {
+        let f = fields.numbers;
+        match f[0] {
+            0 => Setting::Records((f[2] % 1024) as usize),
+            1 => Setting::Voices((f[2] % 64) as usize),
+            2 => Setting::Held(word(f[2])),
+            3 => Setting::Id {
+                place: (f[1] % 64) as usize,
+                id: f[2],
+            },
+            4 => Setting::Serial(f[2]),
+            _ => Setting::NextVoice(f[2]),
         }
     }
 
@@ -112,7 +109,7 @@ impl Replay {
             Command::Call(call) => self.session = call.made(self.session),
             Command::Set(setting) => setting.put(&mut self.session),
             Command::Print => {
-                self.step = self.step.saturating_add(1);
+                self.step = self.step % 0x1_0000_0000 + 1;
                 show::list(rt, &self.session, self.step)?;
             }
             Command::Test(form) => show::tests(rt, self.session, form)?,

@@ -10,7 +10,7 @@
 //   S,voice,slot,region,group,off_by,note,vel,on_note,at,note_polyphony,polyphony,entered,trigger,lokey,hikey,lovel,hivel
 //   J,what,place,value   one number of the session is set        8,regions,voice,count,slot..    the tests of its form are printed
 //
-// `-` is none; the group -1 is written as its 32 bits; `trigger` counts as the Rust's enum, attack first. Any other line says nothing.
+// `-` is none; the group -1 is written as its 32 bits; `trigger` counts as the Rust's enum, attack first. Any other letter says nothing.
 #![tactic(auto)]
 
 mod call;
@@ -19,15 +19,29 @@ mod fields;
 mod show;
 
 use command::{Command, Replay};
-use std::str;
+use fields::Fields;
 
-fn main(rt: HostRuntime) -> std::io::Result<()> {
+// Every line, its first byte the letter, be it a newline. What cannot be written is lost, as in each program of the repository.
+fn perform(rt: &impl Print, text: &[u8]) {
+    let mut replay = Replay::new();
+    let mut rest = text;
+    for _ in 0..text.len() {
+        let Some((letter, behind)) = rest.split_first() else {
+            break;
+        };
+        let len = behind
+            .iter()
+            .position(|b| *b == b'\n')
+            .unwrap_or(behind.len());
+        if let Some(command) = Command::read(*letter, Fields::read(&behind[..len])) {
+            let _ = replay.obey(rt, command);
+        }
+        rest = behind.get(len + 1..).unwrap_or(&[]);
+    }
+}
+
+fn main(rt: HostRuntime) {
     let mut space = io::large_buffer();
     let n = io::read_full(0, &mut space);
-    let text = str::from_utf8(&space[..n]).unwrap_or("");
-    let mut replay = Replay::new();
-    for command in text.lines().filter_map(Command::read) {
-        replay.obey(&rt, command)?;
-    }
-    Ok(())
+    perform(&rt, &space[..n]);
 }

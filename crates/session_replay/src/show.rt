@@ -17,6 +17,19 @@ impl<T: Display> Display for OrDash<T> {
     }
 }
 
+// A group from -1 to 5, which are all that the lists have.
+#[derive(Drop)]
+struct Group(i32);
+
+impl Display for Group {
+    fn fmt<W: fmt::Write>(&self, f: &mut Formatter<W>) -> fmt::Result {
+        match self.0 {
+            -1..=5 => write!(f, "{}", self.0),
+            _ => write!(f, "?"),
+        }
+    }
+}
+
 // What a K line says behind its step.
 #[derive(Drop)]
 struct Record(PlayerRecord);
@@ -30,8 +43,8 @@ impl Display for Record {
             r.voice,
             r.slot,
             r.region,
-            r.group,
-            OrDash(r.off_by),
+            Group(r.group),
+            OrDash(r.off_by.map(Group)),
             r.note,
             r.vel,
             u8::from(r.on_note),

@@ -1,7 +1,7 @@
 use mathlib.Core.Path.{refl, ◌∙◌}
 use lib.Ieee.{nan}
 use Rattle.exact.specs.Single.{f0}
-use Rattle.segments.specs.Source.{sound_of}
+use Rattle.std.proofs.Common.{option_map}
 use Rattle.segments.proofs.Resting.{one_more, within}
 use Prim.Native.Nat.{◌+◌}
 use native.Mathlib.Nat.{le_antisymm}
@@ -30,7 +30,7 @@ pub add_at-requires : goal.add_at-requires
 add_at-requires c = omega (arith, c.requires.0, c.loop-i-test.true, c.loop-i.invariant.0)
 
 pub loop-i-preserved : goal.loop-i-preserved
-loop-i-preserved c = let e = c.args in let q = c.loop-i in (c.add_at.auto.out ∙ q.invariant.0, one_more e.g e.x e.y (sound_of e.lent) e.p e.j q.i e.out.now q.out c.add_at.new.out _ _ _ q.invariant.1 c.add_at.ensures c.share_of.ensures (get_d_any e.lent.a.now (e.p + q.i) nan f0 (omega (arith, c.requires.1.0, c.loop-i-test.true))) c.second_at-r.ensures)
+loop-i-preserved c = let e = c.args in let q = c.loop-i in (c.add_at.auto.out ∙ q.invariant.0, one_more e.g e.x e.y e.a.now (option_map (λ s. s.now) e.b) e.p e.j q.i e.out.now q.out c.add_at.new.out _ _ _ q.invariant.1 c.add_at.ensures c.share_of.ensures (get_d_any e.a.now (e.p + q.i) nan f0 (omega (arith, c.requires.1.0, c.loop-i-test.true))) c.second_at-r.ensures)
 
 pub shape_of-out : goal.shape_of-out
 shape_of-out c = c.loop-i.invariant.0

@@ -41,7 +41,7 @@ loop-j-preserved c =
     let e = c.args in
     let l = c.loop-j in
     let r = c.play_plain-rested in
-    let so_far = carried e.cold e.slots (sound_of e.lent) l.j r.result.next _ _ _ r.ensures.from l.invariant.4 (r.ensures.runs e.slots l.states) in
+    let so_far = carried e.cold e.slots (sound_of e.lent) l.j r.result.next _ _ _ r.ensures.from l.invariant.4 (r.ensures.runs e.slots l.states e.lent.table.now) in
     let z : r.result.next + c.loop-at.at ≡ c.chunk_end-stop.result = omega (arith, c.loop-at.auto.at-end, c.loop-at-test.false, c.chunk_end-stop.ensures.3) in
     (c.chunk_end-stop.ensures.0, c.loop-at.invariant.0, c.loop-at.invariant.1, c.loop-at.invariant.2, c.loop-at.invariant.3 _ so_far ∙ ap (λ (i : ℕ). run_for e.cold e.slots (sound_of e.lent) i (record { hot = e.hot; states = e.states.now; left = e.out_l.now; right = e.out_r.now; done = false })) z, (elim c.if-suited.branch [ then-suited w ↦ rw w.kept-is w.ahead-count.ensures.1.many | else-suited w ↦ rw w.kept-is c.loop-j.invariant.5 ]))
 
@@ -62,7 +62,7 @@ returns-in-Over c =
     let e = c.args in
     let l = c.loop-j in
     let r = c.play_plain-rested in
-    let so_far = carried e.cold e.slots (sound_of e.lent) l.j r.result.next _ _ _ r.ensures.from l.invariant.4 (r.ensures.runs e.slots l.states) in
+    let so_far = carried e.cold e.slots (sound_of e.lent) l.j r.result.next _ _ _ r.ensures.from l.invariant.4 (r.ensures.runs e.slots l.states e.lent.table.now) in
     (ended _ _ _ _ _ c.next_frame.result (r.result.next + c.loop-at.at) refl (c.loop-at.invariant.3 _ so_far) c.next_frame.ensures.0 c.in-Over.g _ (omega (arith, c.loop-at-test.true, c.chunk_end-stop.ensures.0)) c.in-Over.is, rw c.in-Over.is at c.next_frame.ensures.1)
 
 pub filtered-v-requires : goal.filtered-v-requires
