@@ -8,7 +8,7 @@ use lines::block::{Line, read_block_line};
 use lines::desk::PlayLine;
 use lister::feed::Feed;
 use lister::script;
-use lister::script::Script;
+use lister::script::{Again, Script};
 use lister::text::Text;
 use live::Live;
 use live::refusal::Refusal;
@@ -111,7 +111,9 @@ impl<'a> Script for Blocks<'a> {
         }
         Ok(())
     }
+}
 
+impl<'a> Again for Blocks<'a> {
     fn forget(&mut self) {
         self.live.forget();
         self.inputs.forget();

@@ -5,7 +5,7 @@ use block::inputs::Inputs;
 use lines::desk::{BlockLine, DeskLine, read_desk};
 use lister::feed::Feed;
 use lister::script;
-use lister::script::Script;
+use lister::script::{Again, Script};
 use lister::show::{put_records, put_totals};
 use lister::text::Text;
 use live::Live;
@@ -78,7 +78,9 @@ impl<'a> Script for Desk<'a> {
         self.show(text);
         Ok(())
     }
+}
 
+impl<'a> Again for Desk<'a> {
     fn forget(&mut self) {
         self.live.forget();
     }

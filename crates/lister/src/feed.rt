@@ -1,6 +1,8 @@
 // Standard input line by line, through a buffer that is filled again when less than a whole line may be left in it.
 ghost use Rattle.std.specs.Prelude.{◌≡◌, ◌≤◌};
 
+use super::text::part;
+
 // No text has more lines.
 pub const LAST: u64 = 0x8000_0000_0000_0000;
 
@@ -99,5 +101,21 @@ impl Feed {
     // Whether another script follows.
     pub(crate) fn goes_on(&self) -> bool {
         self.last == Last::Parting
+    }
+}
+
+// Calls `perform` for each script of an input that has many, and parts what they print. A script of its own for each, or any other reader
+// of the lines, may be behind it; one script that is used again is performed by `script::replay`.
+pub fn replay<P: Fn(&mut Feed) + Drop>(perform: P)
+    requires { P.IsAlwaysCallable perform }
+{
+    let mut feed = Feed::new(Scripts::Many);
+    for _ in 0..LAST {
+        perform(&mut feed);
+        feed.skip();
+        if !feed.goes_on() {
+            return;
+        }
+        part();
     }
 }

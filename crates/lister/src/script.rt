@@ -9,7 +9,10 @@ pub trait Script {
 
     // Does what a line says, and prints what that leaves. The line's number is for what it prints.
     fn take(&mut self, text: &mut Text, number: u64, line: &[u8]) -> Result<(), Self::Refusal>;
+}
 
+// A script that can be performed again.
+pub trait Again: Script {
     // Forgets what was done, so that the next script begins as the first did. One made anew for each script would cost its whole
     // memory, most of which a script does not use, some four times over.
     fn forget(&mut self);
@@ -30,7 +33,7 @@ pub fn perform<S: Script>(feed: &mut Feed, text: &mut Text, script: &mut S) {
 }
 
 // Performs each script of an input that has many, and parts what they print likewise.
-pub fn replay<S: Script>(script: &mut S) {
+pub fn replay<S: Again>(script: &mut S) {
     let mut feed = Feed::new(Scripts::Many);
     let mut text = Text::new();
     for _ in 0..LAST {

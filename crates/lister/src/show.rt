@@ -1,6 +1,9 @@
 // What both listers print.
+ghost use Rattle.std.specs.Prelude.{◌++◌, Some, codes, decimal};
+
 use super::text::Text;
 use session::{PlayerRecord, Session};
+use std::fmt;
 
 // step, voice, slot, region, group, off_by
 fn put_who(text: &mut Text, r: &PlayerRecord, step: u64) {
@@ -44,4 +47,23 @@ pub fn put_totals(text: &mut Text, s: &Session, step: u64) {
     text.number(step);
     text.number(s.count as u64);
     text.number(s.held as u64);
+}
+
+// The same for any writer: a line's text, without its end.
+#[derive(Drop)]
+pub struct Totals<'a> {
+    pub step: u64,
+    pub session: &'a Session,
+}
+
+impl fmt::Display for Totals<'_> {
+    ghost output = { λ t. Some (codes "T," ++ (decimal t.step ++ (codes "," ++ (decimal t.session.now.count ++ (codes "," ++ decimal t.session.now.held))))) };
+
+    fn fmt<W: fmt::Write>(&self, f: &mut fmt::Formatter<W>) -> fmt::Result {
+        write!(
+            f,
+            "T,{},{},{}",
+            self.step, self.session.count, self.session.held
+        )
+    }
 }

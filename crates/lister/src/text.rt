@@ -1,6 +1,9 @@
 // The text that is written, collected in a buffer: each function puts a piece behind what is there. By functions of its own and not by
 // `Display` of records: a K line by nested `write!`s took four times as long.
-ghost use Rattle.std.specs.Prelude.{◌≤◌};
+ghost use Rattle.std.specs.Prelude.{◌≡◌, ◌≤◌, [], ◌∷◌, to_bits};
+ghost use Rattle.std.specs.Float.{binary32};
+ghost use Rattle.lines.specs.Print.{last_digits, put};
+ghost use Rattle.lister.specs.Text.{place_for};
 
 use exact::order::bits_f32;
 use lines::print::put_hex;
@@ -12,7 +15,7 @@ const STDOUT_FILENO: i32 = 1;
 
 const SIZE: usize = 65536;
 
-// Room for any line that is printed.
+// Room for any line that a lister prints.
 const LINE: usize = 2048;
 
 // What is still to be written: the first `len` bytes.
@@ -36,18 +39,24 @@ impl Text {
         }
     }
 
-    // Writes the text.
-    pub fn flush(&mut self) {
+    // Writes the text. Out of line, as each byte that is put may ask for it.
+    #[inline(never)]
+    pub fn flush(&mut self)
+        ensures { (self.new.len ≡ 0) × (self.new.bytes ≡ self.old.bytes) }
+    {
         io::write_all(STDOUT_FILENO, &self.bytes[..self.len]);
         self.len = 0;
     }
 
-    // A byte more, where there is room.
-    fn put(&mut self, b: u8) {
-        if self.len < SIZE {
-            self.bytes[self.len] = b;
-            self.len += 1;
+    // A byte more. Where there is no room, what is there is written first, be its last line whole or not.
+    fn put(&mut self, b: u8)
+        ensures { record { at = self.new.len; text = self.new.bytes } ≡ put self.old.bytes (place_for 1 self.old.len) (b ∷ []) }
+    {
+        if self.len == SIZE {
+            self.flush();
         }
+        self.bytes[self.len] = b;
+        self.len += 1;
     }
 
     // Where less than a line's room is left, what is there is written, so that whole lines are.
@@ -98,10 +107,15 @@ impl Text {
     }
 
     // A comma and the bits of a single.
-    pub fn single(&mut self, x: f32) {
-        self.put(b',');
+    pub fn single(&mut self, x: f32)
+        ensures { record { at = self.new.len; text = self.new.bytes } ≡ put self.old.bytes (place_for 9 self.old.len) (44 ∷ last_digits 16 8 (to_bits binary32 x)) }
+    {
+        if SIZE - 9 < self.len {
+            self.flush();
+        }
         let at = self.len;
-        self.len = put_hex(&mut self.bytes, at, bits_f32(x)).min(SIZE);
+        self.bytes[at] = b',';
+        self.len = put_hex(&mut self.bytes, at + 1, bits_f32(x));
     }
 
     pub fn end(&mut self) {
