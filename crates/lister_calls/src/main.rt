@@ -1,6 +1,6 @@
 // Public calls of the listers' crates that no lister makes: scripts that are performed by a closure, each by a script of its own, which is
-// never performed again; the totals within another line; and lines that are longer than the buffer. Behind five `T` lines the digits of a
-// single in the first `O` line would pass the buffer's end by one.
+// never performed again; the totals within another line; and lines that are longer than the buffer. Behind five lines of totals the digits
+// of a single in the L line would pass the buffer's end by one.
 #![tactic(auto)]
 
 use block_parts::show::put_outputs;
@@ -24,7 +24,7 @@ impl fmt::Display for Tens {
     }
 }
 
-// `T`, `W` and `O` ask for a line each; any other letter is turned back.
+// `T` asks for the totals, `W` for a wide line, `O` for the lines of two outputs; any other line is turned back.
 #[derive(Drop)]
 struct Calls {
     lines: u64,
