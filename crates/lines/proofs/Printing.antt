@@ -74,10 +74,14 @@ module _ (l ds : List ℕ) (at k : ℕ) (is : length ds ≡ k) where
   pub sign-no-room : length l < at + (k + 1) → record { at = at; text = l } ≡ put l at (45 ∷ ds)
   sign-no-room h = no_room l (45 ∷ ds) at (k + 1) (let q : suc (length ds) ≡ k + 1 = omega arith in q) h
 
-  pub sign-filled : at + (k + 1) ≤ length l → {t : List ℕ} → t ≡ sets (set l at 45) (at + 1) ds → record { at = at + 1 + k; text = t } ≡ put l at (45 ∷ ds)
-  sign-filled h e =
+  -- any byte, and k digits
+  pub byte-filled : (b : ℕ) → at + (k + 1) ≤ length l → {t : List ℕ} → t ≡ sets (set l at b) (at + 1) ds → record { at = at + 1 + k; text = t } ≡ put l at (b ∷ ds)
+  byte-filled b h e =
       let q : at + 1 + k ≡ at + (k + 1) = omega arith in
-      rw q (filled l (45 ∷ ds) at (k + 1) (let q : suc (length ds) ≡ k + 1 = omega arith in q) h (e ∙ ap (λ m. sets (set l at 45) m ds) (add-one at)))
+      rw q (filled l (b ∷ ds) at (k + 1) (let q : suc (length ds) ≡ k + 1 = omega arith in q) h (e ∙ ap (λ m. sets (set l at b) m ds) (add-one at)))
+
+  pub sign-filled : at + (k + 1) ≤ length l → {t : List ℕ} → t ≡ sets (set l at 45) (at + 1) ds → record { at = at + 1 + k; text = t } ≡ put l at (45 ∷ ds)
+  sign-filled h e = byte-filled 45 h e
 
 -- a signed number's digits are those of its size
 pub digits_above : (n : ℤ) → lt_z n (pos 0) ≡ false → digits_of (nat_abs n) ≡ signed_digits n

@@ -1,6 +1,6 @@
 // The text that is written, collected in a buffer: each function puts a piece behind what is there. By functions of its own and not by
 // `Display` of records: a K line by nested `write!`s took four times as long.
-ghost use Rattle.std.specs.Prelude.{◌≡◌, ◌≤◌, [], ◌∷◌, to_bits};
+ghost use Rattle.std.specs.Prelude.{◌≡◌, ◌≤◌, ◌+◌, [], ◌∷◌, to_bits};
 ghost use Rattle.std.specs.Float.{binary32};
 ghost use Rattle.lines.specs.Print.{last_digits, put};
 ghost use Rattle.lister.specs.Text.{place_for};
@@ -16,7 +16,7 @@ const STDOUT_FILENO: i32 = 1;
 const SIZE: usize = 65536;
 
 // Room for any line that a lister prints.
-const LINE: usize = 2048;
+const LINE: usize = 2049;
 
 // What is still to be written: the first `len` bytes.
 #[derive(Drop)]
@@ -48,27 +48,29 @@ impl Text {
         self.len = 0;
     }
 
-    // A byte more. Where there is no room, what is there is written first, be its last line whole or not.
+    // Room for n bytes: where there is less, what is there is written first. Whole lines are written, since each begins with a line's room.
+    fn make_room(&mut self, n: usize)
+        requires { n ≤ 65536 }
+        ensures place { (self.new.len ≡ place_for n self.old.len) × (self.new.bytes ≡ self.old.bytes) }
+        ensures room { self.new.len + n ≤ 65536 }
+    {
+        if SIZE - n < self.len {
+            self.flush();
+        }
+    }
+
+    // A byte more.
     fn put(&mut self, b: u8)
         ensures { record { at = self.new.len; text = self.new.bytes } ≡ put self.old.bytes (place_for 1 self.old.len) (b ∷ []) }
     {
-        if self.len == SIZE {
-            self.flush();
-        }
+        self.make_room(1);
         self.bytes[self.len] = b;
         self.len += 1;
     }
 
-    // Where less than a line's room is left, what is there is written, so that whole lines are.
-    fn make_room(&mut self) {
-        if SIZE - LINE <= self.len {
-            self.flush();
-        }
-    }
-
     // The letter of a line.
     pub fn begin(&mut self, letter: u8) {
-        self.make_room();
+        self.make_room(LINE);
         self.put(letter);
     }
 
@@ -110,9 +112,7 @@ impl Text {
     pub fn single(&mut self, x: f32)
         ensures { record { at = self.new.len; text = self.new.bytes } ≡ put self.old.bytes (place_for 9 self.old.len) (44 ∷ last_digits 16 8 (to_bits binary32 x)) }
     {
-        if SIZE - 9 < self.len {
-            self.flush();
-        }
+        self.make_room(9);
         let at = self.len;
         self.bytes[at] = b',';
         self.len = put_hex(&mut self.bytes, at + 1, bits_f32(x));
@@ -124,7 +124,7 @@ impl Text {
 
     // A line more.
     pub fn line<D: fmt::Display + Drop>(&mut self, d: D) {
-        self.make_room();
+        self.make_room(LINE);
         let _ = writeln!(self, "{d}");
     }
 }
